@@ -1,0 +1,71 @@
+-- A listed report has a spelling, where the names of the inputs are Names.
+use Rattle.std.proofs.Common.{◌≡◌, ℕ, Bool, true, false, List, [], ◌∷◌, ◌++◌, map, refl, sym, subst, ◌∙◌, arith}
+use Rattle.std.specs.Prelude.{◌&&◌}
+use Rattle.std.specs.List.{All, list_all}
+use Rattle.std.proofs.lemmas.List.Elements.{All-head, All-tail}
+use Rattle.std.proofs.lemmas.Bool.Decides.{nat_tests}
+use Rattle.path_core.specs.declared.bounds.Bounds.{Bounds}
+use Rattle.path_core.specs.declared.bounds.Declared.{Declared}
+use Rattle.path_core.specs.Names.{is_letter, is_name_byte, is_word, is_name, is_reserved}
+use Rattle.path_core.specs.Accepted.{IsAccepted}
+use Rattle.path_core.specs.Inputs.{Values, within}
+use Rattle.js_ast.specs.declared.tree.Script.{Script}
+use Rattle.expose.specs.declared.report.Line.{Line}
+use Rattle.expose.specs.declared.report.Report.{Report}
+use Rattle.expose.specs.Lines.{is_ascii, is_item_spelt, is_line_spelt, is_spelt}
+use Rattle.expose.specs.Listing.{named, line_of, IsFirst, IsListed}
+
+both_true : (a b : Bool) → (a && b) ≡ true → (a ≡ true) × (b ≡ true)
+both_true true true e = (refl, refl)
+both_true true false e = absurd cc
+both_true false b e = absurd cc
+
+and_true : (a b : Bool) → a ≡ true → b ≡ true → (a && b) ≡ true
+and_true true true e f = refl
+and_true true false e f = absurd cc
+and_true false b e f = absurd cc
+
+letter_ascii : (b : ℕ) → is_letter b ≡ true → is_ascii b ≡ true
+letter_ascii b e = grind (arith, nat_tests)
+
+name_byte_ascii : (b : ℕ) → is_name_byte b ≡ true → is_ascii b ≡ true
+name_byte_ascii b e = grind (arith, nat_tests)
+
+bytes_ascii : (bs : List ℕ) → list_all is_name_byte bs ≡ true → list_all is_ascii bs ≡ true
+bytes_ascii [] e = refl
+bytes_ascii (b ∷ bs) e =
+    let h = both_true (is_name_byte b) (list_all is_name_byte bs) e in
+    and_true (is_ascii b) (list_all is_ascii bs) (name_byte_ascii b h.0) (bytes_ascii bs h.1)
+
+word_ascii : (name : List ℕ) → is_word name ≡ true → list_all is_ascii name ≡ true
+word_ascii [] e = refl
+word_ascii (b ∷ bs) e =
+    let h = both_true (is_letter b) (list_all is_name_byte bs) e in
+    and_true (is_ascii b) (list_all is_ascii bs) (letter_ascii b h.0) (bytes_ascii bs h.1)
+
+name_ascii : (d : Declared) → IsAccepted d → list_all is_ascii d.name ≡ true
+name_ascii d h = word_ascii d.name (both_true (is_word d.name) _ h.name).0
+
+items_spelt : (ds : List Declared) (vs : Values) → All IsAccepted ds → list_all is_item_spelt (named ds vs) ≡ true
+items_spelt [] vs h = refl
+items_spelt (d ∷ ds) [] h = refl
+items_spelt (d ∷ ds) (v ∷ vs) h =
+    and_true (list_all is_ascii d.name) (list_all is_item_spelt (named ds vs)) (name_ascii d (All-head IsAccepted d ds h)) (items_spelt ds vs (All-tail IsAccepted d ds h))
+
+lines_spelt : (script : Script) (bounds : Bounds) (xs : List Values) → All IsAccepted bounds.inputs → list_all is_line_spelt (map (line_of script bounds) xs) ≡ true
+lines_spelt script bounds [] h = refl
+lines_spelt script bounds (x ∷ xs) h =
+    and_true (is_line_spelt (line_of script bounds x)) (list_all is_line_spelt (map (line_of script bounds) xs)) (items_spelt bounds.inputs x h) (lines_spelt script bounds xs h)
+
+spelt_at : (before after : List Line) (l : Line) → list_all is_line_spelt (before ++ l ∷ after) ≡ true → is_line_spelt l ≡ true
+spelt_at [] after l e = (both_true (is_line_spelt l) (list_all is_line_spelt after) e).0
+spelt_at (m ∷ before) after l e = spelt_at before after l (both_true (is_line_spelt m) (list_all is_line_spelt (before ++ l ∷ after)) e).1
+
+picked_spelt : (all picked : List Line) → list_all is_line_spelt all ≡ true → All (IsFirst all) picked → list_all is_line_spelt picked ≡ true
+picked_spelt all [] e h = refl
+picked_spelt all (l ∷ ls) e h =
+    let first = All-head (IsFirst all) l ls h in
+    and_true (is_line_spelt l) (list_all is_line_spelt ls) (spelt_at first.0 first.1 l (subst (λ (xs : List Line). list_all is_line_spelt xs ≡ true) first.2 e)) (picked_spelt all ls e (All-tail (IsFirst all) l ls h))
+
+pub listed_spelt : (script : Script) (bounds : Bounds) (report : Report) → All IsAccepted bounds.inputs → IsListed script bounds report → is_spelt report ≡ true
+listed_spelt script bounds report h listed = picked_spelt _ report.lines (lines_spelt script bounds (within bounds.inputs) h) listed.lines.first

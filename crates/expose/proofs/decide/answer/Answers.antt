@@ -1,0 +1,19 @@
+use Rattle.std.proofs.Common.{refl, inl, inr, arith}
+use Rattle.expose.specs.TopCall.{ListAnswer}
+use Rattle.expose.proofs.Faults.{as_told}
+use Rattle.expose.proofs.Spelt.{listed_spelt}
+use Rattle.expose.proofs.decide.answer.Goals as goal
+
+pub returns-in-Err-Syntax : goal.returns-in-Err-Syntax
+returns-in-Err-Syntax c =
+    as_told c.told.result _ _ (λ n t. ListAnswer c.args.script.now c.args.bounds.now n t) c.told.ensures.number c.told.ensures.text
+    (inr (inr (inl (record {
+      accepted = c.in-Ok.bounds;
+      formed = record { formed = c.in-Ok.ensures.form; few = omega (arith, c.count.ensures) };
+      none = λ s h. rw c.in-Err-Syntax.field-0-is at (c.in-Err-Syntax.ensures.only s h);
+      number_is = refl;
+      text_is = (c.in-Err-Syntax.at, refl);
+    }))))
+
+pub write_report-requires : goal.write_report-requires
+write_report-requires c = listed_spelt c.in-Ok-parse_script.script c.in-Ok.bounds c.in_ok-report.report c.in-Ok.ensures.accepted c.in_ok-report.ensures

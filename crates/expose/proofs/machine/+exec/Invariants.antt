@@ -1,0 +1,9 @@
+use Rattle.std.proofs.Common.{◌≡◌, drop}
+use Rattle.js_ast.specs.Meaning.{stmt_run, stmts_run}
+use Rattle.expose.specs.Runs.{environment_of, place_of, resumes}
+use Rattle.expose.proofs.machine.+exec.Given as goal
+
+abbrev pub invariant-loop-inner : goal.invariant-loop-inner
+invariant-loop-inner l =
+    resumes l.progress (stmts_run (drop l.inner-index l.inner-items) (environment_of l.scope) (place_of l.scope.turns l.progress))
+    ≡ resumes l.fn.progress (stmt_run l.fn.stmt (environment_of l.fn.scope) (place_of l.fn.scope.turns l.fn.progress))

@@ -1,0 +1,123 @@
+-- The text of a report: ASCII lines, each ended by U+000A. One report has one spelling.
+use Rattle.std.specs.Prelude.{nat_lt, ◌==◌, ℕ, List, [], ◌++◌, codes, decimal, Bool, true, false, if◌then◌else◌}
+use Rattle.std.specs.List.{flat_map, list_all}
+use Rattle.std.specs.Fmt.{signed_decimal}
+use Rattle.js_units.specs.Quoted.{quoted}
+use Rattle.path_core.specs.declared.path.InputValue.{InputValue}
+use Rattle.path_core.specs.declared.path.InputValue.TheVariants as values
+use Rattle.path_core.specs.declared.path.Event.{Event}
+use Rattle.path_core.specs.declared.path.Event.TheVariants as events
+use Rattle.path_core.specs.declared.path.PickKind.{PickKind}
+use Rattle.path_core.specs.declared.path.PickKind.TheVariants as kinds
+use Rattle.path_core.specs.declared.path.ErrorName.{ErrorName}
+use Rattle.path_core.specs.declared.path.ErrorName.TheVariants as errors
+use Rattle.path_core.specs.declared.path.Thrown.{Thrown}
+use Rattle.path_core.specs.declared.path.Thrown.TheVariants as thrown
+use Rattle.path_core.specs.declared.path.Why.{Why}
+use Rattle.path_core.specs.declared.path.Why.TheVariants as why
+use Rattle.path_core.specs.declared.path.Budget.{Budget}
+use Rattle.path_core.specs.declared.path.Budget.TheVariants as budget
+use Rattle.path_core.specs.declared.path.End.{End}
+use Rattle.path_core.specs.declared.path.End.TheVariants as ends
+use Rattle.expose.specs.declared.report.Line.{Line}
+use Rattle.expose.specs.declared.report.Line.TheVariants as lines
+use Rattle.expose.specs.declared.report.Report.{Report}
+
+-- a number in decimal, or a text between quotes
+abbrev pub value_text : InputValue → List ℕ
+value_text (values.Int n) = signed_decimal n
+value_text (values.Text units) = quoted units
+
+-- SP name = value
+unfoldable pub item_text : List ℕ × InputValue → List ℕ
+item_text i = codes " " ++ i.0 ++ codes "=" ++ value_text i.1
+
+abbrev pub letter : PickKind → List ℕ
+letter kinds.Branch = codes "b"
+letter kinds.Place = codes "i"
+letter kinds.Number = codes "p"
+letter kinds.Match = codes "m"
+letter kinds.Group = codes "g"
+letter kinds.Found = codes "f"
+letter kinds.Key = codes "k"
+letter kinds.Clamp = codes "c"
+
+-- the number of ways, where a kind hasn't always two
+abbrev pub ways_text : PickKind → ℕ → List ℕ
+ways_text kinds.Key ways = codes "/" ++ decimal ways
+ways_text kinds.Clamp ways = codes "/" ++ decimal ways
+ways_text _ ways = []
+
+-- SP letter site = outcome
+unfoldable pub event_text : Event → List ℕ
+event_text (events.Pick site kind out ways) = codes " " ++ letter kind ++ decimal site ++ codes "=" ++ decimal out ++ ways_text kind ways
+event_text (events.Value site units) = codes " v" ++ decimal site ++ codes "=" ++ quoted units
+
+abbrev pub error_text : ErrorName → List ℕ
+error_text errors.Error = codes "Error"
+error_text errors.TypeError = codes "TypeError"
+error_text errors.RangeError = codes "RangeError"
+error_text errors.ReferenceError = codes "ReferenceError"
+
+abbrev pub thrown_text : Thrown → List ℕ
+thrown_text thrown.Value = codes "value"
+thrown_text (thrown.Named name) = error_text name
+
+abbrev pub why_text : Why → List ℕ
+why_text why.Range = codes "range"
+why_text why.Divide = codes "divide"
+why_text why.Convert = codes "convert"
+why_text why.Inherited = codes "inherited"
+why_text why.Message = codes "message"
+why_text why.Unicode = codes "unicode"
+why_text why.Template = codes "template"
+why_text why.Size = codes "size"
+why_text why.Key = codes "key"
+why_text why.Set = codes "set"
+why_text why.Builtin = codes "builtin"
+why_text why.Name = codes "name"
+why_text why.Iterate = codes "iterate"
+why_text why.New = codes "new"
+
+abbrev pub budget_text : Budget → List ℕ
+budget_text budget.Turns = codes "turns"
+budget_text budget.Events = codes "events"
+budget_text budget.Nodes = codes "nodes"
+
+abbrev pub ended_text : ℕ → List ℕ
+ended_text ended = if ended == 0 then [] else codes "+" ++ decimal ended
+
+-- the turns, where they aren't 0, and behind them the ended activations, where they aren't 0
+abbrev pub turns_text : ℕ → ℕ → List ℕ
+turns_text turns ended = if turns == 0 then [] else codes "+" ++ decimal turns ++ ended_text ended
+
+unfoldable pub end_text : End → List ℕ
+end_text ends.Done = codes "done"
+end_text (ends.Threw site what) = codes "threw:" ++ thrown_text what ++ codes "@" ++ decimal site
+end_text (ends.Left site w turns ended) = codes "left:" ++ why_text w ++ codes "@" ++ decimal site ++ turns_text turns ended
+end_text (ends.Cut site b) = codes "cut:" ++ budget_text b ++ codes "@" ++ decimal site
+
+-- path, the input, its events and its end
+unfoldable pub line_text : Line → List ℕ
+line_text (lines.Path input path) = codes "path" ++ flat_map item_text input ++ codes " |" ++ flat_map event_text path.events ++ codes " | " ++ end_text path.end ++ codes "\n"
+
+abbrev pub last_text : Bool → List ℕ
+last_text true = codes "complete\n"
+last_text false = codes "incomplete\n"
+
+unfoldable pub report_text : Report → List ℕ
+report_text r = codes "expose 1\n" ++ flat_map line_text r.lines ++ last_text r.complete
+
+-- ---- what has a spelling: names are ASCII
+
+abbrev pub is_ascii : ℕ → Bool
+is_ascii unit = nat_lt unit 128
+
+abbrev pub is_item_spelt : List ℕ × InputValue → Bool
+is_item_spelt i = list_all is_ascii i.0
+
+abbrev pub is_line_spelt : Line → Bool
+is_line_spelt (lines.Path input path) = list_all is_item_spelt input
+
+abbrev pub is_spelt : Report → Bool
+is_spelt r = list_all is_line_spelt r.lines

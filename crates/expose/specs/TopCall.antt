@@ -1,0 +1,190 @@
+-- What a run answers, by its words and files, and what it writes.
+use Rattle.std.specs.Prelude.{◌≡◌, ◌⊎◌, ℕ, ◌+◌, ◌<◌, ◌≤◌, List, [], ◌∷◌, ◌++◌, length, codes, decimal, bytes_eq, cond, true, false, Option, Some, None, Ok, Err}
+use Rattle.std.specs.Io.KnownBytes.{Appends}
+use Rattle.js_units.specs.Quoted.{quoted}
+use Rattle.ex_base.specs.Outside.{Told, holds, Asked, IsWhole, IsLonger, Rose, IsCut}
+use Rattle.path_core.specs.declared.bounds.Bounds.{Bounds}
+use Rattle.path_core.specs.declared.bounds.BoundsRefusal.{BoundsRefusal}
+use Rattle.path_core.specs.declared.bounds.BoundsRefusal.TheVariants as refusal
+use Rattle.path_core.specs.Form.{form}
+use Rattle.path_core.specs.Inputs.{within}
+use Rattle.js_ast.specs.declared.tree.Script.{Script}
+use Rattle.expose.specs.declared.report.Report.{Report}
+use Rattle.expose.specs.Grammar.{Spells}
+use Rattle.expose.specs.Lines.{report_text}
+use Rattle.expose.specs.Listing.{max_inputs, IsListed}
+
+abbrev pub Name : Type 0
+Name = List ℕ
+
+-- `list SCRIPT BOUNDS`: the two files
+unfoldable pub listed_files : List Name → Option (Name × Name)
+listed_files (word ∷ script ∷ bounds ∷ []) = cond (bytes_eq word (codes "list")) (Some (script, bounds)) None
+listed_files _ = None
+
+-- the most bytes of a script or of a bounds file
+abbrev pub max_file : ℕ
+max_file = 1048576
+
+abbrev pub usage : List ℕ
+usage = codes "usage: expose list SCRIPT BOUNDS\n"
+
+-- what a run knows of the files: what they hold, the last load behind it, and the count of faults before and behind it
+pub record Seen : Type 0 where
+  pub held : Name → Told
+  pub last : Option Asked
+  pub before : ℕ
+  pub now : ℕ
+
+-- ---- the words are no form
+
+pub record IsUsage (words : List Name) (seen : Seen) (number : ℕ) (text : List ℕ) : Type 0 where
+  pub none : listed_files words ≡ None
+  pub number_is : number ≡ 2
+  pub text_is : text ≡ usage
+  pub faults : seen.now ≡ seen.before
+
+-- ---- a file that isn't read
+
+-- a file is held within the limit, where that is told
+abbrev pub IsReadable : Seen → Name → Type 0
+IsReadable seen name = (bytes : List ℕ) × IsWhole (seen.held name) bytes × (length bytes ≤ max_file)
+
+abbrev pub AreReadable : Seen → List Name → Type 0
+AreReadable seen [] = Unit {0}
+AreReadable seen (name ∷ names) = IsReadable seen name × AreReadable seen names
+
+-- the file at a place among the files of the words, counted from 1; those before it are readable
+pub record IsFile (words : List Name) (seen : Seen) (place : ℕ) (name : Name) : Type 0 where
+  pub earlier : List Name
+  pub later : List Name
+  pub place_is : place ≡ length earlier + 1
+  pub files : (files : Name × Name) × (listed_files words ≡ Some files) × (files.0 ∷ files.1 ∷ [] ≡ earlier ++ name ∷ later)
+  pub readable : AreReadable seen earlier
+
+-- its load failed
+pub record IsReadFault (words : List Name) (seen : Seen) (number : ℕ) (text : List ℕ) : Type 0 where
+  pub place : ℕ
+  pub name : Name
+  pub file : IsFile words seen place name
+  pub last : (took : ℕ) × (seen.last ≡ Some (record { name = name; most = max_file; took = took; failed = true }))
+  pub rose : Rose seen.before seen.now
+  pub number_is : number ≡ 3
+  pub text_is : text ≡ codes "read fault: file " ++ decimal place ++ codes "\n"
+
+-- it has more bytes than the limit
+pub record IsTooLong (words : List Name) (seen : Seen) (number : ℕ) (text : List ℕ) : Type 0 where
+  pub place : ℕ
+  pub name : Name
+  pub file : IsFile words seen place name
+  pub longer : IsLonger (seen.held name) max_file
+  pub last : seen.last ≡ Some (record { name = name; most = max_file; took = max_file + 1; failed = false })
+  pub faults : seen.now ≡ seen.before
+  pub number_is : number ≡ 8
+  pub text_is : text ≡ codes "too long: file " ++ decimal place ++ codes "\n"
+
+-- ---- both files are read: the answer to their bytes
+
+-- json, version, field NAME, range NAME or alphabet NAME
+abbrev pub refusal_text : BoundsRefusal → List ℕ
+refusal_text refusal.Json = codes "json"
+refusal_text refusal.Version = codes "version"
+refusal_text (refusal.Field name) = codes "field " ++ quoted name
+refusal_text (refusal.Range name) = codes "range " ++ quoted name
+refusal_text (refusal.Alphabet name) = codes "alphabet " ++ quoted name
+refusal_text refusal.NoMemory = []
+
+-- no bounds stand in the second file
+pub record IsBoundsRefused (bounds : List ℕ) (number : ℕ) (text : List ℕ) : Type 0 where
+  pub refused : BoundsRefusal
+  pub none : form bounds ≡ Err refused
+  pub number_is : number ≡ 6
+  pub text_is : text ≡ codes "bounds refused: " ++ refusal_text refused ++ codes "\n"
+
+-- the bounds have more inputs than are listed
+pub record IsTooMany (bounds : List ℕ) (number : ℕ) (text : List ℕ) : Type 0 where
+  pub accepted : Bounds
+  pub formed : form bounds ≡ Ok accepted
+  pub many : max_inputs < length (within accepted.inputs)
+  pub number_is : number ≡ 6
+  pub text_is : text ≡ codes "bounds refused: too many\n"
+
+-- the bounds are accepted
+pub record IsAccepted (bounds : List ℕ) (accepted : Bounds) : Type 0 where
+  pub formed : form bounds ≡ Ok accepted
+  pub few : length (within accepted.inputs) ≤ max_inputs
+
+-- no script stands in the first file
+pub record IsScriptRefused (script bounds : List ℕ) (number : ℕ) (text : List ℕ) : Type 0 where
+  pub accepted : Bounds
+  pub formed : IsAccepted bounds accepted
+  pub none : (s : Script) → ¬ Spells script s
+  pub number_is : number ≡ 5
+  pub text_is : (at : ℕ) × (text ≡ codes "script refused at " ++ decimal at ++ codes ": syntax\n")
+
+-- the paths are listed
+pub record IsListing (script bounds : List ℕ) (number : ℕ) (text : List ℕ) : Type 0 where
+  pub spelt : Script
+  pub accepted : Bounds
+  pub report : Report
+  pub spells : Spells script spelt
+  pub formed : IsAccepted bounds accepted
+  pub listed : IsListed spelt accepted report
+  pub number_is : number ≡ 0
+  pub text_is : text ≡ report_text report
+
+-- the answer of `list` to the bytes of a script and of bounds
+abbrev pub ListAnswer : List ℕ → List ℕ → ℕ → List ℕ → Type 0
+ListAnswer script bounds number text =
+    IsBoundsRefused bounds number text ⊎ (IsTooMany bounds number text ⊎ (IsScriptRefused script bounds number text ⊎ IsListing script bounds number text))
+
+pub record IsAnswered (words : List Name) (seen : Seen) (number : ℕ) (text : List ℕ) : Type 0 where
+  pub files : Name × Name
+  pub words_are : listed_files words ≡ Some files
+  pub script : List ℕ
+  pub bounds : List ℕ
+  pub script_is : IsWhole (seen.held files.0) script
+  pub bounds_is : IsWhole (seen.held files.1) bounds
+  pub faults : seen.now ≡ seen.before
+  pub answer : ListAnswer script bounds number text
+
+-- ---- the whole
+
+-- what is decided before anything is written
+abbrev pub IsDecided : List Name → Seen → ℕ → List ℕ → Type 0
+IsDecided words seen number text = IsUsage words seen number text ⊎ (IsReadFault words seen number text ⊎ (IsTooLong words seen number text ⊎ IsAnswered words seen number text))
+
+-- what was decided was written, whole
+pub record IsWritten (words : List Name) (seen : Seen) (old new : Option (List ℕ)) (number : ℕ) : Type 0 where
+  pub text : List ℕ
+  pub decided : IsDecided words seen number text
+  pub written : Appends old new text
+
+-- a front of what was decided was written, and not all of it, since the sink failed
+pub record IsWriteFault (words : List Name) (seen : Seen) (old new : Option (List ℕ)) (before now : ℕ) : Type 0 where
+  pub number : ℕ
+  pub text : List ℕ
+  pub part : List ℕ
+  pub decided : IsDecided words seen number text
+  pub cut : IsCut part text
+  pub written : Appends old new part
+  pub rose : Rose before now
+
+-- ---- what is told of `list`
+
+-- the bytes spell a script and form bounds, and the report that lists its paths was written, exactly
+pub record ListsPaths (script bounds : List ℕ) (old new : Option (List ℕ)) : Type 0 where
+  pub spelt : Script
+  pub accepted : Bounds
+  pub report : Report
+  pub spells : Spells script spelt
+  pub formed : IsAccepted bounds accepted
+  pub listed : IsListed spelt accepted report
+  pub written : Appends old new (report_text report)
+
+-- where the words are `list SCRIPT BOUNDS` and the files tell these bytes
+pub record ToldList (words : List Name) (held : Name → Told) (script bounds : List ℕ) : Type 0 where
+  pub files : Name × Name
+  pub words_are : listed_files words ≡ Some files
+  pub script_is : held files.0 ≡ holds script
+  pub bounds_is : held files.1 ≡ holds bounds

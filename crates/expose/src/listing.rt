@@ -1,0 +1,102 @@
+//! The list of the different paths of a script.
+
+ghost use Rattle.std.specs.Prelude.{◌≡◌, ◌≢◌, ◌≤◌, List, [], ◌∷◌, ◌++◌, length, map, All, Contains, MatchBool, IfOk, OnOk};
+ghost use Rattle.path_core.specs.Inputs.{within, IsRange};
+ghost use Rattle.expose.specs.declared.report.Line.{Line};
+ghost use Rattle.expose.specs.Listing.{named, line_of, line_path, Picks, IsListed, max_inputs};
+
+use crate::machine::run_plain;
+use crate::report::{Line, Report};
+use js_ast::Script;
+use js_units::{NoMemory, Units};
+use path_core::{
+    Bounds, Declared, Input, InputValue, Path, count, first_input, is_same_path, next_input,
+};
+use sqlite_items::Items;
+use std::alloc::Global;
+
+/// Whether a line has this path.
+fn is_listed(lines: &[Line], path: &Path) -> bool
+    ensures { MatchBool result (Contains (map line_path lines.now) path.now) (All (λ l. line_path l ≢ path.now) lines.now) }
+{
+    for line in lines {
+        match line {
+            Line::Path { path: known, .. } => {
+                if is_same_path(known, path) {
+                    return true;
+                }
+            }
+        }
+    }
+    false
+}
+
+fn value_of(value: &InputValue) -> Result<InputValue, NoMemory>
+    ensures { IfOk result (λ v. v ≡ value.now) }
+{
+    match value {
+        InputValue::Int(number) => Ok(InputValue::Int(*number)),
+        InputValue::Text(text) => Ok(InputValue::Text(text.copy()?)),
+    }
+}
+
+/// Each value beside the name of its input.
+fn named(
+    alloc: Global,
+    inputs: &[Declared],
+    values: &[InputValue],
+) -> Result<Items<(Units, InputValue)>, NoMemory>
+    ensures { IfOk result (λ items. items ≡ named inputs.now values.now) }
+{
+    let mut items = Items::new(alloc);
+    let mut inputs_left = inputs;
+    let mut values_left = values;
+    while let [declared, more @ ..] = inputs_left {
+        let [value, others @ ..] = values_left else {
+            return Ok(items);
+        };
+        items.push((declared.name.copy()?, value_of(value)?))?;
+        inputs_left = more;
+        values_left = others;
+    }
+    Ok(items)
+}
+
+/// Adds the line of the input, unless a line has its path.
+fn add_line(
+    alloc: Global,
+    script: &Script,
+    bounds: &Bounds,
+    input: &Input,
+    lines: &mut Items<Line>,
+) -> Result<(), NoMemory>
+    ensures { OnOk result ((all : List Line) → Picks all lines.old → Picks (all ++ line_of script.now bounds.now input.now.values ∷ []) lines.new) }
+{
+    let path = run_plain(alloc, script, bounds, input)?;
+    if is_listed(lines.as_slice(), &path) {
+        return Ok(());
+    }
+    let input = named(alloc, bounds.inputs.as_slice(), input.values.as_slice())?;
+    lines.push(Line::Path { input, path })?;
+    Ok(())
+}
+
+/// The report of the different paths of the inputs within bounds, of which there are at most 65,536: each once, with
+/// the first input that has it, in the order of these inputs.
+pub fn list_all(alloc: Global, script: &Script, bounds: &Bounds) -> Result<Report, NoMemory>
+    requires ranges { All (λ d. IsRange d.kind) bounds.now.inputs }
+    requires few { length (within bounds.now.inputs) ≤ max_inputs }
+    ensures { IfOk result (λ report. IsListed script.now bounds.now report) }
+{
+    let total = count(bounds) as usize;
+    let mut input = first_input(alloc, bounds)?;
+    let mut lines = Items::new(alloc);
+    for _place in 0..total {
+        add_line(alloc, script, bounds, &input, &mut lines)?;
+        let _more = next_input(bounds, &mut input)?;
+    }
+    Ok(Report {
+        lines,
+        complete: true,
+    })
+}

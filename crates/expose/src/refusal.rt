@@ -1,0 +1,41 @@
+//! Why no script is read.
+
+ghost use Rattle.std.specs.Prelude.{◌≡◌};
+ghost use Rattle.expose.specs.declared.refusal.ScriptRefusal.TheVariants as refusal;
+
+use js_units::NoMemory;
+use std::alloc::{AllocError, AllocFailed};
+
+/// Why no script is read.
+#[derive(Clone, Copy, Debug, PartialEq, Eq)]
+pub enum ScriptRefusal {
+    /// Reading can't go on at this byte offset: that of a token, of the first byte at which no
+    /// token stands, or of the end.
+    Syntax { at: usize },
+    /// Memory ran out.
+    NoMemory,
+}
+
+impl From<NoMemory> for ScriptRefusal {
+    ghost from_gives = { λ _ e. e ≡ refusal.NoMemory };
+
+    fn from(_: NoMemory) -> ScriptRefusal {
+        ScriptRefusal::NoMemory
+    }
+}
+
+impl From<AllocError> for ScriptRefusal {
+    ghost from_gives = { λ _ e. e ≡ refusal.NoMemory };
+
+    fn from(_: AllocError) -> ScriptRefusal {
+        ScriptRefusal::NoMemory
+    }
+}
+
+impl<T: Drop> From<AllocFailed<T>> for ScriptRefusal {
+    ghost from_gives = { λ _ e. e ≡ refusal.NoMemory };
+
+    fn from(_: AllocFailed<T>) -> ScriptRefusal {
+        ScriptRefusal::NoMemory
+    }
+}

@@ -1,0 +1,18 @@
+//! Strings of the language as lists of 16-bit code units: their order, the decimal text of a whole
+//! number, and the quoted text that reports are written in.
+#![tactic(auto)]
+
+mod memory;
+mod number;
+mod order;
+mod quoting;
+mod units;
+
+pub use memory::NoMemory;
+pub use number::decimal;
+pub use order::compare;
+pub use quoting::escape;
+pub use units::Units;
+
+#[cfg(test)]
+mod tests;

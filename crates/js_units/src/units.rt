@@ -1,0 +1,116 @@
+//! A string of the language: any list of 16-bit code units (ECMA-262, section 6.1.4).
+
+ghost use Rattle.std.specs.Prelude.{◌≡◌, ◌<◌, [], ◌∷◌, ◌++◌, length, slice_index, bytes_eq, IfOk, OnOk, OnErr, IsTrue, ◌↔◌};
+
+use crate::memory::NoMemory;
+use std::alloc::Global;
+use std::marker::Model;
+
+/// A string, which contracts see as the list of its code units.
+#[derive(Debug, Drop)]
+pub struct Units {
+    units: Vec<u16>,
+}
+
+impl Model for Units {
+    ghost use Rattle.std.specs.Prelude.{ℕ, List};
+
+    ghost Value = { List ℕ };
+
+    ghost view = { λ u. u.units.items };
+}
+
+impl Units {
+    /// The empty string.
+    pub fn new(alloc: Global) -> Units
+        ensures { result ≡ [] }
+    {
+        Units {
+            units: Vec::new(alloc),
+        }
+    }
+
+    /// The string of the bytes, each standing for the unit of its number.
+    pub fn from_bytes(alloc: Global, bytes: &[u8]) -> Result<Units, NoMemory>
+        ensures { IfOk result (λ text. text ≡ bytes.now) }
+    {
+        let mut text = Units::new(alloc);
+        for byte in bytes {
+            text.push(u16::from(*byte))?;
+        }
+        Ok(text)
+    }
+
+    /// How many units there are.
+    pub fn len(&self) -> usize
+        ensures { result ≡ length self.now }
+    {
+        self.units.len()
+    }
+
+    /// Whether there is no unit.
+    pub fn is_empty(&self) -> bool
+        ensures { IsTrue result ↔ (self.now ≡ []) }
+    {
+        self.units.is_empty()
+    }
+
+    /// The unit at a place, counted from 0.
+    pub fn at(&self, i: usize) -> u16
+        requires { i < length self.now }
+        ensures { result ≡ slice_index self.now i }
+    {
+        self.units[i]
+    }
+
+    /// Adds a unit at the end. A refused push changes nothing.
+    pub fn push(&mut self, unit: u16) -> Result<(), NoMemory>
+        ensures ok { OnOk result (self.new ≡ self.old ++ unit ∷ []) }
+        ensures err { OnErr result (self.new ≡ self.old) }
+    {
+        self.units.push(unit)?;
+        Ok(())
+    }
+
+    /// An equal string.
+    pub fn copy(&self) -> Result<Units, NoMemory>
+        ensures { IfOk result (λ text. text ≡ self.now) }
+    {
+        Ok(Units {
+            units: self.units.clone()?,
+        })
+    }
+
+    /// Whether the units are the numbers of the bytes.
+    pub fn equals_bytes(&self, bytes: &[u8]) -> bool
+        ensures { result ≡ bytes_eq self.now bytes.now }
+    {
+        let mut units = self.units.as_slice();
+        let mut rest = bytes;
+        while let [unit, more @ ..] = units {
+            let [byte, others @ ..] = rest else {
+                return false;
+            };
+            if *unit != u16::from(*byte) {
+                return false;
+            }
+            units = more;
+            rest = others;
+        }
+        rest.is_empty()
+    }
+
+    /// Whether the two have the same units.
+    pub fn equals(&self, other: &Units) -> bool
+        ensures { result ≡ bytes_eq self.now other.now }
+    {
+        self.units.as_slice() == other.units.as_slice()
+    }
+
+    /// The units, in order.
+    pub fn as_slice(&self) -> &[u16]
+        ensures { result.now ≡ self.now }
+    {
+        self.units.as_slice()
+    }
+}

@@ -1,0 +1,4 @@
+pub mod File
+pub mod Order
+pub mod Counting
+pub mod Taken
