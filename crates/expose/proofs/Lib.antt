@@ -8,5 +8,6 @@ pub mod Lexemes
 pub mod RunSteps
 pub mod Picking
 pub mod Places
+pub mod Rows
 pub mod Spelt
 pub mod Faults

@@ -1,5 +1,5 @@
 -- Steps of a run.
-use Rattle.std.proofs.Common.{◌≡◌, ℕ, List, [], ◌∷◌, ◌++◌, map, Option, Some, None, refl, ap, sym, ◌∙◌, append_assoc}
+use Rattle.std.proofs.Common.{◌≡◌, ℕ, List, [], ◌∷◌, map, refl, ap, sym, ◌∙◌, append_assoc}
 use Rattle.std.proofs.lemmas.List.{append-nil}
 use Rattle.js_ast.specs.Running.{Place, Outcome, Item, Completion, made, done, after, bind, events_of, end_of}
 use Rattle.js_ast.specs.Meaning.{path_by}

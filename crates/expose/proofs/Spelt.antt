@@ -1,12 +1,12 @@
 -- A listed report has a spelling, where the names of the inputs are Names.
-use Rattle.std.proofs.Common.{◌≡◌, ℕ, Bool, true, false, List, [], ◌∷◌, ◌++◌, map, refl, sym, subst, ◌∙◌, arith}
+use Rattle.std.proofs.Common.{◌≡◌, ℕ, Bool, true, false, List, [], ◌∷◌, ◌++◌, map, refl, subst, arith}
 use Rattle.std.specs.Prelude.{◌&&◌}
 use Rattle.std.specs.List.{All, list_all}
 use Rattle.std.proofs.lemmas.List.Elements.{All-head, All-tail}
 use Rattle.std.proofs.lemmas.Bool.Decides.{nat_tests}
 use Rattle.path_core.specs.declared.bounds.Bounds.{Bounds}
 use Rattle.path_core.specs.declared.bounds.Declared.{Declared}
-use Rattle.path_core.specs.Names.{is_letter, is_name_byte, is_word, is_name, is_reserved}
+use Rattle.path_core.specs.Names.{is_letter, is_name_byte, is_word}
 use Rattle.path_core.specs.Accepted.{IsAccepted}
 use Rattle.path_core.specs.Inputs.{Values, within}
 use Rattle.js_ast.specs.declared.tree.Script.{Script}

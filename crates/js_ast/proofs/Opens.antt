@@ -1,7 +1,7 @@
 -- One level of the meaning of statements.
-use Rattle.std.proofs.Common.{◌≡◌, ℕ, List, Option, Some, None, map, ap, ◌∙◌, sym}
+use Rattle.std.proofs.Common.{◌≡◌, ℕ, List, Some, None, map, ap, ◌∙◌, sym}
 use Rattle.js_ast.specs.declared.tree.Test.{Test}
-use Rattle.js_ast.specs.declared.tree.Stmt.{Stmt, fold-Stmt, fold-roll-Stmt}
+use Rattle.js_ast.specs.declared.tree.Stmt.{Stmt, fold-roll-Stmt}
 use Rattle.js_ast.specs.declared.tree.Stmt.TheOpen.{Stmt-F}
 use Rattle.js_ast.specs.declared.tree.Stmt.TheVariants as s
 use Rattle.js_ast.specs.Running.{Meaning}

@@ -1,5 +1,5 @@
 -- What a script does, big-step, by cases on its tree (ECMA-262, evaluation of strict mode code).
-use Rattle.std.specs.Prelude.{ℕ, ℤ, pos, Bool, true, false, not, ◌&&◌, int_le, int_lt, bytes_eq, cond, if◌then◌else◌, List, [], ◌∷◌, Option, Some, None, map}
+use Rattle.std.specs.Prelude.{ℕ, ℤ, pos, Bool, true, false, not, ◌&&◌, int_le, int_lt, bytes_eq, cond, List, [], ◌∷◌, Option, Some, None, map}
 use Rattle.path_core.specs.declared.bounds.Bounds.{Bounds}
 use Rattle.path_core.specs.declared.bounds.Declared.{Declared}
 use Rattle.path_core.specs.declared.path.InputValue.{InputValue}
@@ -14,7 +14,7 @@ use Rattle.js_ast.specs.declared.tree.Test.{Test}
 use Rattle.js_ast.specs.declared.tree.Stmt.{Stmt, fold-Stmt}
 use Rattle.js_ast.specs.declared.tree.Stmt.TheOpen.{Stmt-F}
 use Rattle.js_ast.specs.declared.tree.Script.{Script}
-use Rattle.js_ast.specs.Running.{Value, int, truth, Item, Completion, normal, value, stops, Place, Environment, Outcome, Meaning, done, bind, on_value, on_normal, count, bit, branch, leaves, end_of, events_of}
+use Rattle.js_ast.specs.Running.{Value, int, truth, normal, value, Place, Environment, Outcome, Meaning, done, bind, on_value, on_normal, count, bit, branch, leaves, end_of, events_of}
 
 -- ---- operators
 

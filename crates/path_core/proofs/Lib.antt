@@ -2,3 +2,4 @@ pub mod File
 pub mod Order
 pub mod Counting
 pub mod Taken
+pub mod Rows

@@ -1,4 +1,4 @@
-use Rattle.std.proofs.Common.{◌≡◌, ◌≢◌, take}
+use Rattle.std.proofs.Common.{◌≢◌, take}
 use Rattle.std.specs.List.{All}
 use Rattle.expose.specs.Listing.{line_path}
 use Rattle.expose.proofs.listing.is_listed.Given as goal

@@ -1,4 +1,3 @@
-use Rattle.js_ast.specs.declared.tree.Script.{Script}
 use Rattle.path_core.specs.Inputs.{within}
 use Rattle.expose.specs.Listing.{line_of}
 use Rattle.expose.proofs.Places.{Reached}
