@@ -11,3 +11,4 @@ pub mod Places
 pub mod Rows
 pub mod Spelt
 pub mod Faults
+pub mod Told

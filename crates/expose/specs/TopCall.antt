@@ -1,5 +1,6 @@
 -- What a run answers, by its words and files, and what it writes.
-use Rattle.std.specs.Prelude.{◌≡◌, ◌⊎◌, ℕ, ◌+◌, ◌<◌, ◌≤◌, List, [], ◌∷◌, ◌++◌, length, codes, decimal, bytes_eq, cond, true, false, Option, Some, None, Ok, Err}
+use Rattle.std.specs.Prelude.{◌≡◌, ◌≢◌, ◌⊎◌, ℕ, ◌+◌, ◌<◌, ◌≤◌, List, [], ◌∷◌, ◌++◌, length, codes, decimal, bytes_eq, cond, map, true, false, Option, Some, None, Ok, Err}
+use Rattle.std.specs.Global.{Vec}
 use Rattle.std.specs.Io.KnownBytes.{Appends}
 use Rattle.js_units.specs.Quoted.{quoted}
 use Rattle.ex_base.specs.Outside.{Told, holds, Asked, IsWhole, IsLonger, Rose, IsCut}
@@ -35,6 +36,13 @@ pub record Seen : Type 0 where
   pub last : Option Asked
   pub before : ℕ
   pub now : ℕ
+
+abbrev pub seen_by : (Name → Told) → Option Asked → ℕ → ℕ → Seen
+seen_by held last before now = record { held = held; last = last; before = before; now = now }
+
+-- the words, as lists of bytes
+abbrev pub names : List (Vec ℕ) → List Name
+names words = map (λ w. w.items) words
 
 -- ---- the words are no form
 
@@ -145,6 +153,8 @@ pub record IsAnswered (words : List Name) (seen : Seen) (number : ℕ) (text : L
   pub bounds : List ℕ
   pub script_is : IsWhole (seen.held files.0) script
   pub bounds_is : IsWhole (seen.held files.1) bounds
+  pub script_fits : length script ≤ max_file
+  pub bounds_fits : length bounds ≤ max_file
   pub faults : seen.now ≡ seen.before
   pub answer : ListAnswer script bounds number text
 
@@ -172,6 +182,25 @@ pub record IsWriteFault (words : List Name) (seen : Seen) (old new : Option (Lis
 
 -- ---- what is told of `list`
 
+-- where the words are `list SCRIPT BOUNDS` and the files tell these bytes
+pub record ToldList (words : List Name) (held : Name → Told) (script bounds : List ℕ) : Type 0 where
+  pub files : Name × Name
+  pub words_are : listed_files words ≡ Some files
+  pub script_is : held files.0 ≡ holds script
+  pub bounds_is : held files.1 ≡ holds bounds
+
+-- and each is within the limit
+pub record HeldList (words : List Name) (held : Name → Told) (script bounds : List ℕ) : Type 0 where
+  pub told : ToldList words held script bounds
+  pub script_fits : length script ≤ max_file
+  pub bounds_fits : length bounds ≤ max_file
+
+-- a status that no fault of the outside and no want of memory gives
+pub record IsUnfailed (number : ℕ) : Type 0 where
+  pub no_read_fault : number ≢ 3
+  pub no_write_fault : number ≢ 4
+  pub memory : number ≢ 7
+
 -- the bytes spell a script and form bounds, and the report that lists its paths was written, exactly
 pub record ListsPaths (script bounds : List ℕ) (old new : Option (List ℕ)) : Type 0 where
   pub spelt : Script
@@ -182,9 +211,25 @@ pub record ListsPaths (script bounds : List ℕ) (old new : Option (List ℕ)) :
   pub listed : IsListed spelt accepted report
   pub written : Appends old new (report_text report)
 
--- where the words are `list SCRIPT BOUNDS` and the files tell these bytes
-pub record ToldList (words : List Name) (held : Name → Told) (script bounds : List ℕ) : Type 0 where
-  pub files : Name × Name
-  pub words_are : listed_files words ≡ Some files
-  pub script_is : held files.0 ≡ holds script
-  pub bounds_is : held files.1 ≡ holds bounds
+-- no bounds stand in the bytes, or they have more inputs than are listed
+abbrev pub AreNoBounds : List ℕ → Type 0
+AreNoBounds bounds = ((refused : BoundsRefusal) × (form bounds ≡ Err refused)) ⊎ ((accepted : Bounds) × (form bounds ≡ Ok accepted) × (max_inputs < length (within accepted.inputs)))
+
+-- the bounds are accepted, and the bytes spell no script
+abbrev pub IsNoScript : List ℕ → List ℕ → Type 0
+IsNoScript script bounds = (accepted : Bounds) × IsAccepted bounds accepted × ((s : Script) → ¬ Spells script s)
+
+-- both are accepted
+abbrev pub AreAccepted : List ℕ → List ℕ → Type 0
+AreAccepted script bounds = (accepted : Bounds) × (spelt : Script) × IsAccepted bounds accepted × Spells script spelt
+
+-- this text was written
+abbrev pub Writes : (List ℕ → Type 0) → Option (List ℕ) → Option (List ℕ) → Type 0
+Writes P old new = (text : List ℕ) × P text × Appends old new text
+
+-- the first file that is told to be longer than the limit, behind those that are held within it
+abbrev pub IsOverlong : List Name → (Name → Told) → Type 0
+IsOverlong words held =
+    (files : Name × Name) × (listed_files words ≡ Some files)
+    × (((script : List ℕ) × (held files.0 ≡ holds script) × (max_file < length script))
+    ⊎ ((script bounds : List ℕ) × (held files.0 ≡ holds script) × (length script ≤ max_file) × (held files.1 ≡ holds bounds) × (max_file < length bounds)))

@@ -1,9 +1,9 @@
 //! What is answered, before anything is written.
 
-ghost use Rattle.std.specs.Prelude.{◌≡◌, ◌++◌, ◌≤◌, ℕ, length, codes, decimal, IfOk, OnOk, map};
+ghost use Rattle.std.specs.Prelude.{◌≡◌, ◌++◌, ◌≤◌, ℕ, length, codes, decimal, IfOk, OnOk};
 ghost use Rattle.std.specs.Option.{option_map};
 ghost use Rattle.js_units.specs.Quoted.{quoted};
-ghost use Rattle.expose.specs.TopCall.{listed_files, Seen, IsDecided, max_file, refusal_text, ListAnswer};
+ghost use Rattle.expose.specs.TopCall.{listed_files, names, seen_by, IsDecided, max_file, refusal_text, ListAnswer};
 
 use crate::listing::list_all;
 use crate::parser::parse_script;
@@ -23,7 +23,7 @@ pub struct Decided {
 
 #[tactic(auto, unfolding(crate::specs::TopCall::listed_files))]
 fn listed_files(words: &[Vec<u8>]) -> Option<(&[u8], &[u8])>
-    ensures { option_map (λ x. (x.0.now, x.1.now)) result ≡ listed_files (map (λ w. w.items) words.now) }
+    ensures { option_map (λ x. (x.0.now, x.1.now)) result ≡ listed_files (names words.now) }
 {
     match words {
         [word, script, bounds] => {
@@ -138,7 +138,7 @@ pub fn decide<F: Files>(
     words: &[Vec<u8>],
     files: &mut F,
 ) -> Result<Decided, NoMemory>
-    ensures { IfOk result (λ d. IsDecided (map (λ w. w.items) words.now) (record { held = F.held files.old; last = F.last files.new; before = F.faults files.old; now = F.faults files.new }) d.number d.text.items) }
+    ensures { IfOk result (λ d. IsDecided (names words.now) (seen_by (F.held files.old) (F.last files.new) (F.faults files.old) (F.faults files.new)) d.number d.text.items) }
 {
     let (script, bounds) = match listed_files(words) {
         Some(names) => names,
