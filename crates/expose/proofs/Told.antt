@@ -127,4 +127,3 @@ only_0 script bounds number text h both =
       | inr (inr (inl s)) ↦ absurd (s.none both.1 both.3)
       | inr (inr (inr l)) ↦ l.number_is
     ]
-

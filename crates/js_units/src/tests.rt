@@ -20,6 +20,13 @@ fn push_and_copy(rt: HostRuntime) -> Result<(), Fail> {
 }
 
 #[test]
+fn code_units(rt: HostRuntime) -> Result<(), Fail> {
+    let text = Units::from_text(rt.alloc(), "a\u{e9}\u{1f600}")?;
+    assert_eq!(rt; text.as_slice(), [97, 233, 55357, 56832].as_slice());
+    Ok(())
+}
+
+#[test]
 fn order(rt: HostRuntime) -> Result<(), Fail> {
     let alloc = rt.alloc();
     let short = Units::from_bytes(alloc, b"ab")?;

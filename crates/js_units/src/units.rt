@@ -1,6 +1,7 @@
 //! A string of the language: any list of 16-bit code units (ECMA-262, section 6.1.4).
 
 ghost use Rattle.std.specs.Prelude.{◌≡◌, ◌<◌, [], ◌∷◌, ◌++◌, length, slice_index, bytes_eq, IfOk, OnOk, OnErr, IsTrue, ◌↔◌};
+ghost use Rattle.js_units.specs.CodeUnits.{encode, code_units};
 
 use crate::memory::NoMemory;
 use std::alloc::Global;
@@ -39,6 +40,31 @@ impl Units {
             text.push(u16::from(*byte))?;
         }
         Ok(text)
+    }
+
+    /// The code units of the text.
+    #[tactic(auto, unfolding(crate::specs::CodeUnits::code_units))]
+    pub fn from_text(alloc: Global, text: &str) -> Result<Units, NoMemory>
+        ensures { IfOk result (λ units. units ≡ code_units text.now) }
+    {
+        let mut units = Units::new(alloc);
+        for character in text.chars() {
+            units.push_character(character)?;
+        }
+        Ok(units)
+    }
+
+    fn push_character(&mut self, character: char) -> Result<(), NoMemory>
+        ensures { OnOk result (self.new ≡ self.old ++ encode character) }
+    {
+        let point = character as u32;
+        if point < 0x1_0000 {
+            self.push(point as u16)?;
+            return Ok(());
+        }
+        self.push((0xd800 + (point - 0x1_0000) / 0x400) as u16)?;
+        self.push((0xdc00 + (point - 0x1_0000) % 0x400) as u16)?;
+        Ok(())
     }
 
     /// How many units there are.

@@ -4,6 +4,7 @@ use Rattle.std.specs.Str.{is_utf8}
 use Rattle.serde_json.specs.Data.{Data, Items, no_items, item, Members, no_members, member}
 use Rattle.serde_json.specs.Read.{read}
 use Rattle.serde_json.specs.Find.{get, as_number, as_u64, as_integer, as_array, as_object, as_str}
+use Rattle.js_units.specs.CodeUnits.{code_units}
 use Rattle.path_core.specs.Names.{is_among, is_name}
 use Rattle.path_core.specs.declared.bounds.BoundsRefusal.{BoundsRefusal}
 use Rattle.path_core.specs.declared.bounds.Kind.{Kind}
@@ -155,10 +156,10 @@ declared_from found (item d ds) = declared_of found d >>= λ x. declared_from (f
 
 -- 5. No other members: those of the file in byte order, then those of each input.
 
--- Refused for the first member that isn't allowed.
+-- Refused for the first member that isn't allowed, by the code units of its name.
 abbrev pub only : List (List ℕ) → Members → Result ⊤ BoundsRefusal
 only allowed no_members = Ok tt
-only allowed (member name d ms) = if is_among name allowed then only allowed ms else field name
+only allowed (member name d ms) = if is_among name allowed then only allowed ms else field (code_units name)
 
 -- None where there is no object.
 abbrev pub members_or : Option Members → Members

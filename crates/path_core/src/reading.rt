@@ -5,6 +5,7 @@ ghost use Rattle.std.specs.Option.{option_map, option_and_then};
 ghost use Rattle.serde_json.specs.Find.{get, as_array, as_str, as_integer};
 ghost use Rattle.serde_json.specs.View.{view, items_view, members_view, number_view};
 ghost use Rattle.path_core.specs.Accepted.{IsAccepted};
+ghost use Rattle.js_units.specs.CodeUnits.{code_units};
 ghost use Rattle.path_core.specs.Form.{Gives, IsField, is_safe, are_objects, object_of, version_of, list_of, is_declared, is_free, name_of, kind_of, number_of, range_of, declared_of, declared_from, members_of, only, only_in_each, form};
 ghost use Rattle.path_core.specs.Inputs.{IsRange};
 ghost use Rattle.path_core.specs.Names.{is_name};
@@ -55,6 +56,16 @@ fn refused(alloc: Global, name: &str) -> BoundsRefusal
     ensures { IsField result name.now }
 {
     match Units::from_bytes(alloc, name.as_bytes()) {
+        Ok(name) => BoundsRefusal::Field { name },
+        Err(NoMemory) => BoundsRefusal::NoMemory,
+    }
+}
+
+/// Refused for a member of the file's own choice, by the code units of its name.
+fn refused_member(alloc: Global, name: &str) -> BoundsRefusal
+    ensures { IsField result (code_units name.now) }
+{
+    match Units::from_text(alloc, name) {
         Ok(name) => BoundsRefusal::Field { name },
         Err(NoMemory) => BoundsRefusal::NoMemory,
     }
@@ -252,7 +263,7 @@ fn check_members(
 {
     for (name, _) in members.iter() {
         if !is_among(name.as_str(), allowed) {
-            return Err(refused(alloc, name.as_str()));
+            return Err(refused_member(alloc, name.as_str()));
         }
     }
     Ok(())
