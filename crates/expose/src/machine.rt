@@ -1,7 +1,7 @@
 //! Runs of a script on one input.
 
-ghost use Rattle.std.specs.Prelude.{◌≡◌, ℕ, IfOk};
-ghost use Rattle.js_ast.specs.Running.{int, Place, Outcome, done, count, branch, end_of};
+ghost use Rattle.std.specs.Prelude.{◌≡◌, ◌≤◌, ℕ, length, IfOk, OnOk};
+ghost use Rattle.js_ast.specs.Running.{int, Place, Outcome, done, count, branch, end_of, event_limit};
 ghost use Rattle.js_ast.specs.Meaning.{compare, input_number, input_of, side_run, test_run, stmt_run, stmts_run, path_of};
 ghost use Rattle.expose.specs.Runs.{environment_of, place_of, resumes, reaches, number_answer, truth_answer, stmt_answer, counts, goes_on};
 
@@ -133,7 +133,8 @@ fn ask(scope: Scope, test: &Test, progress: &mut Progress) -> Result<bool, End>
 #[tactic(auto, unfolding(js_ast::specs::Running::branch))]
 /// Makes the event of a test, unless the run has used them up.
 fn make_branch(progress: &mut Progress, site: u32, holds: bool) -> Result<Option<End>, NoMemory>
-    ensures { IfOk result (λ ended. (turns : ℕ) (go : Place → Outcome) → resumes progress.old (branch site holds (place_of turns progress.old) go) ≡ goes_on turns progress.new ended go) }
+    ensures meaning { IfOk result (λ ended. (turns : ℕ) (go : Place → Outcome) → resumes progress.old (branch site holds (place_of turns progress.old) go) ≡ goes_on turns progress.new ended go) }
+    ensures few { OnOk result (length progress.old.events ≤ event_limit → length progress.new.events ≤ event_limit) }
 {
     if progress.events.len() >= EVENT_LIMIT {
         return Ok(Some(End::Cut {
@@ -152,7 +153,8 @@ fn make_branch(progress: &mut Progress, site: u32, holds: bool) -> Result<Option
 
 /// Runs a statement, up to the end that it comes to, if it does. Nests as deep as the statement.
 fn exec(scope: Scope, stmt: &Stmt, progress: &mut Progress) -> Result<Option<End>, NoMemory>
-    ensures { IfOk result (λ ended. resumes progress.old (stmt_run stmt.now (environment_of scope.entry) (place_of scope.entry.turns progress.old)) ≡ reaches scope.entry.turns progress.new (stmt_answer ended)) }
+    ensures meaning { IfOk result (λ ended. resumes progress.old (stmt_run stmt.now (environment_of scope.entry) (place_of scope.entry.turns progress.old)) ≡ reaches scope.entry.turns progress.new (stmt_answer ended)) }
+    ensures few { OnOk result (length progress.old.events ≤ event_limit → length progress.new.events ≤ event_limit) }
 {
     match stmt {
         Stmt::Nothing { site } => Ok(count_node(progress, *site)),
@@ -197,7 +199,8 @@ fn exec(scope: Scope, stmt: &Stmt, progress: &mut Progress) -> Result<Option<End
 
 /// Runs statements one after the other, up to the end that they come to, if they do.
 fn run_all(scope: Scope, body: &[Stmt], progress: &mut Progress) -> Result<Option<End>, NoMemory>
-    ensures { IfOk result (λ ended. resumes progress.old (stmts_run body.now (environment_of scope.entry) (place_of scope.entry.turns progress.old)) ≡ reaches scope.entry.turns progress.new (stmt_answer ended)) }
+    ensures meaning { IfOk result (λ ended. resumes progress.old (stmts_run body.now (environment_of scope.entry) (place_of scope.entry.turns progress.old)) ≡ reaches scope.entry.turns progress.new (stmt_answer ended)) }
+    ensures few { OnOk result (length progress.old.events ≤ event_limit → length progress.new.events ≤ event_limit) }
 {
     for stmt in body {
         if let Some(end) = exec(scope, stmt, progress)? {
@@ -216,14 +219,15 @@ fn end_of(ended: Option<End>) -> End
     }
 }
 
-/// The path of the input.
+/// The path of the input: at most 4,096 events, and an end.
 pub fn run_plain(
     alloc: Global,
     script: &Script,
     bounds: &Bounds,
     input: &Input,
 ) -> Result<Path, NoMemory>
-    ensures { IfOk result (λ path. path ≡ path_of script.now bounds.now input.now.values) }
+    ensures path { IfOk result (λ path. path ≡ path_of script.now bounds.now input.now.values) }
+    ensures few { IfOk result (λ path. length path.events ≤ event_limit) }
 {
     let scope = Scope {
         inputs: bounds.inputs.as_slice(),

@@ -2,9 +2,9 @@ use Rattle.expose.proofs.Picking.{picks_known, picks_new}
 use Rattle.expose.proofs.listing.add_line.Goals as goal
 
 pub returns-then-is_listed : goal.returns-then-is_listed
-returns-then-is_listed c = λ all h. picks_known all _ _ h (rw (c.as_slice.ensures, c.in_ok-path.ensures) at c.if-is_listed.ensures)
+returns-then-is_listed c = λ all h. picks_known all _ _ h (rw (c.as_slice.ensures, c.in_ok-path.ensures.path) at c.if-is_listed.ensures)
 
 pub returns : goal.returns
 returns c =
-    λ all h. rw (c.in_ok-push.ensures.ok, c.in_ok-input.ensures, c.as_slice-2.ensures, c.as_slice-3.ensures, c.in_ok-path.ensures)
-    (picks_new all _ _ h (rw (c.as_slice.ensures, c.in_ok-path.ensures) at c.if-is_listed.ensures))
+    λ all h. rw (c.in_ok-push.ensures.ok, c.in_ok-input.ensures, c.as_slice-2.ensures, c.as_slice-3.ensures, c.in_ok-path.ensures.path)
+    (picks_new all _ _ h (rw (c.as_slice.ensures, c.in_ok-path.ensures.path) at c.if-is_listed.ensures))

@@ -3,8 +3,8 @@ use Rattle.expose.specs.Runs.{stmt_answer}
 use Rattle.expose.proofs.RunSteps.{path_reached}
 use Rattle.expose.proofs.machine.run_plain.Goals as goal
 
-pub returns : goal.returns
-returns c =
+pub returns-clause-path : goal.returns-clause-path
+returns-clause-path c =
     rw c.end_of-end.ensures
     (path_reached c.args.bounds.now.turns c.run_all.new.progress (stmt_answer c.in_ok-ended.ended) _
-    (sym (rw (c.new.ensures, c.as_slice-3.ensures, c.as_slice.ensures, c.as_slice-2.ensures) at c.in_ok-ended.ensures)))
+    (sym (rw (c.new.ensures, c.as_slice-3.ensures, c.as_slice.ensures, c.as_slice-2.ensures) at c.in_ok-ended.ensures.meaning)))
