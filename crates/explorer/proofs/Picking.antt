@@ -4,8 +4,8 @@ use Rattle.std.specs.List.{All, AllPairs, Contains}
 use Rattle.std.proofs.lemmas.List.Elements.{All-push, All-weaker, All-map, All-contains, All-get_or, Contains-append_left, Contains-push}
 use Rattle.std.proofs.lemmas.List.Quantifiers.{all_pairs_push}
 use Rattle.path_core.specs.declared.path.Path.{Path}
-use Rattle.expose.specs.declared.report.Line.{Line}
-use Rattle.expose.specs.Listing.{line_path, IsFirst, Precedes, Picks}
+use Rattle.report_text.specs.declared.report.Line.{Line}
+use Rattle.explorer.specs.Listing.{line_path, IsFirst, Precedes, Picks}
 
 abbrev HasNot : Path → Line → Type 0
 HasNot path l = line_path l ≢ path

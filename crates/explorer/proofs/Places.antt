@@ -3,8 +3,8 @@ use Rattle.std.proofs.Common.{◌≡◌, ℕ, ◌<◌, ◌≤◌, ◌+◌, Bool,
 use Rattle.std.proofs.lemmas.List.{take_at}
 use Rattle.std.proofs.Math.Seq.{take_all}
 use Rattle.path_core.specs.Inputs.{Values, IsNext, IsLast}
-use Rattle.expose.specs.declared.report.Line.{Line}
-use Rattle.expose.specs.Listing.{Picks}
+use Rattle.report_text.specs.declared.report.Line.{Line}
+use Rattle.explorer.specs.Listing.{Picks}
 
 -- x stands at this place, counted from 0
 pub record At (all : List Values) (place : ℕ) (x : Values) : Type 0 where

@@ -10,10 +10,10 @@ use Rattle.path_core.specs.Names.{is_letter, is_name_byte, is_word}
 use Rattle.path_core.specs.Accepted.{IsAccepted}
 use Rattle.path_core.specs.Inputs.{Values, within}
 use Rattle.js_ast.specs.declared.tree.Script.{Script}
-use Rattle.expose.specs.declared.report.Line.{Line}
-use Rattle.expose.specs.declared.report.Report.{Report}
-use Rattle.expose.specs.Lines.{is_ascii, is_item_spelt, is_line_spelt, is_spelt}
-use Rattle.expose.specs.Listing.{named, line_of, IsFirst, IsListed}
+use Rattle.report_text.specs.declared.report.Line.{Line}
+use Rattle.report_text.specs.declared.report.Report.{Report}
+use Rattle.report_text.specs.Lines.{is_ascii, is_item_spelt, is_line_spelt, is_spelt}
+use Rattle.explorer.specs.Listing.{named, line_of, IsFirst, IsListed}
 
 both_true : (a b : Bool) → (a && b) ≡ true → (a ≡ true) × (b ≡ true)
 both_true true true e = (refl, refl)

@@ -7,9 +7,9 @@ use Rattle.path_core.specs.declared.path.Path.{Path}
 use Rattle.path_core.specs.Inputs.{Values, within}
 use Rattle.js_ast.specs.declared.tree.Script.{Script}
 use Rattle.js_ast.specs.Meaning.{path_of}
-use Rattle.expose.specs.declared.report.Line.{Line}
-use Rattle.expose.specs.declared.report.Line.TheVariants as lines
-use Rattle.expose.specs.declared.report.Report.{Report}
+use Rattle.report_text.specs.declared.report.Line.{Line}
+use Rattle.report_text.specs.declared.report.Line.TheVariants as lines
+use Rattle.report_text.specs.declared.report.Report.{Report}
 
 -- the most inputs that are listed
 abbrev pub max_inputs : ℕ

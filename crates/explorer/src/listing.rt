@@ -1,17 +1,19 @@
 //! The list of the different paths of a script.
 
-ghost use Rattle.std.specs.Prelude.{◌≡◌, ◌≢◌, ◌≤◌, List, [], ◌∷◌, ◌++◌, length, map, All, Contains, MatchBool, IfOk, OnOk};
+ghost use Rattle.std.specs.Prelude.{◌≡◌, ◌≢◌, ◌≤◌, List, [], ◌∷◌, ◌++◌, length, map, All, Contains, true, MatchBool, IfOk, OnOk};
+ghost use Rattle.path_core.specs.Accepted.{IsAccepted};
 ghost use Rattle.path_core.specs.Inputs.{within, IsRange};
-ghost use Rattle.expose.specs.declared.report.Line.{Line};
-ghost use Rattle.expose.specs.Listing.{named, line_of, line_path, Picks, IsListed, max_inputs};
+ghost use Rattle.report_text.specs.Lines.{is_spelt};
+ghost use Rattle.report_text.specs.declared.report.Line.{Line};
+ghost use Rattle.explorer.specs.Listing.{named, line_of, line_path, all_lines, Picks, IsListed, max_inputs};
 
-use crate::machine::run_plain;
-use crate::report::{Line, Report};
 use js_ast::Script;
+use js_machine::run_plain;
 use js_units::{NoMemory, Units};
 use path_core::{
     Bounds, Declared, Input, InputValue, Path, count, first_input, is_same_path, next_input,
 };
+use report_text::{Line, Report};
 use sqlite_items::Items;
 use std::alloc::Global;
 
@@ -81,12 +83,11 @@ fn add_line(
     Ok(())
 }
 
-/// The report of the different paths of the inputs within bounds, of which there are at most 65,536: each once, with
-/// the first input that has it, in the order of these inputs.
-pub fn list_all(alloc: Global, script: &Script, bounds: &Bounds) -> Result<Report, NoMemory>
+/// The lines of the different paths, each with the first input that has it, in the order of these inputs.
+fn lines_of(alloc: Global, script: &Script, bounds: &Bounds) -> Result<Items<Line>, NoMemory>
     requires ranges { All (λ d. IsRange d.kind) bounds.now.inputs }
     requires few { length (within bounds.now.inputs) ≤ max_inputs }
-    ensures { IfOk result (λ report. IsListed script.now bounds.now report) }
+    ensures { IfOk result (λ lines. Picks (all_lines script.now bounds.now) lines) }
 {
     let total = count(bounds) as usize;
     let mut input = first_input(alloc, bounds)?;
@@ -95,6 +96,20 @@ pub fn list_all(alloc: Global, script: &Script, bounds: &Bounds) -> Result<Repor
         add_line(alloc, script, bounds, &input, &mut lines)?;
         let _more = next_input(bounds, &mut input)?;
     }
+    Ok(lines)
+}
+
+/// The report of the different paths of the inputs within bounds, of which there are at most 65,536: each once, with
+/// the first input that has it, in the order of these inputs.
+pub fn list_all(alloc: Global, script: &Script, bounds: &Bounds) -> Result<Report, NoMemory>
+    requires ranges { All (λ d. IsRange d.kind) bounds.now.inputs }
+    requires accepted { All IsAccepted bounds.now.inputs }
+    requires few { length (within bounds.now.inputs) ≤ max_inputs }
+    ensures listed { IfOk result (λ report. IsListed script.now bounds.now report) }
+    // Every name and every text of it can be written.
+    ensures spelt { IfOk result (λ report. is_spelt report ≡ true) }
+{
+    let lines = lines_of(alloc, script, bounds)?;
     Ok(Report {
         lines,
         complete: true,

@@ -1,14 +1,3 @@
-pub mod Steps
-pub mod Soundness
-pub mod Completeness
-pub mod Scripts
-pub mod Numbers
-pub mod Spelling
-pub mod Lexemes
-pub mod RunSteps
-pub mod Picking
-pub mod Places
 pub mod Rows
-pub mod Spelt
 pub mod Faults
 pub mod Told

@@ -18,15 +18,15 @@ use Rattle.js_ast.specs.declared.tree.Stmt.TheVariants.{Block, If}
 use Rattle.js_ast.specs.declared.tree.Script.{Script}
 use Rattle.js_ast.specs.Running.{count, branch}
 use Rattle.js_ast.proofs.Opens.{run_if, run_block}
-use Rattle.expose.specs.declared.token.Token.{Token}
-use Rattle.expose.specs.declared.token.TokenKind.TheVariants as k
-use Rattle.expose.specs.declared.report.Line.{Line}
-use Rattle.expose.specs.declared.report.Line.TheVariants as lines
-use Rattle.expose.specs.declared.report.Report.{Report}
-use Rattle.expose.specs.Tokens.{Tokens, Begins, spelling, is_blank, IsKind, IsWhole}
-use Rattle.expose.specs.Grammar.{mark, IsIf, IsStmt, Spells}
-use Rattle.expose.specs.Lines.{report_text, line_text, item_text, event_text, end_text}
-use Rattle.expose.specs.Listing.{all_lines, line_path, IsFirst, Precedes, Picks, IsListed}
+use Rattle.small_parser.specs.declared.token.Token.{Token}
+use Rattle.small_parser.specs.declared.token.TokenKind.TheVariants as k
+use Rattle.report_text.specs.declared.report.Line.{Line}
+use Rattle.report_text.specs.declared.report.Line.TheVariants as lines
+use Rattle.report_text.specs.declared.report.Report.{Report}
+use Rattle.small_parser.specs.Tokens.{Tokens, Begins, spelling, is_blank, IsKind, IsWhole}
+use Rattle.small_parser.specs.Grammar.{mark, IsIf, IsStmt, Spells}
+use Rattle.report_text.specs.Lines.{report_text, line_text, item_text, event_text, end_text}
+use Rattle.explorer.specs.Listing.{all_lines, line_path, IsFirst, Precedes, Picks, IsListed}
 
 abbrev bytes : List ℕ
 bytes = codes "if (n > 3) { if (n < 2) {} }"

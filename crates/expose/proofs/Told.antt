@@ -6,8 +6,8 @@ use Rattle.path_core.specs.declared.bounds.BoundsRefusal.{BoundsRefusal}
 use Rattle.path_core.specs.Form.{form}
 use Rattle.path_core.specs.Inputs.{within}
 use Rattle.ex_base.specs.Outside.{Told, holds, IsWhole, IsLonger}
-use Rattle.expose.specs.Listing.{max_inputs}
-use Rattle.expose.specs.TopCall.{Name, listed_files, max_file, Seen, IsUsage, IsReadFault, IsTooLong, IsAccepted, IsBoundsRefused, IsTooMany, IsScriptRefused, ListAnswer, IsAnswered, IsDecided, ToldList, HeldList, IsUnfailed, AreNoBounds, IsNoScript, AreAccepted, IsOverlong}
+use Rattle.explorer.specs.Listing.{max_inputs}
+use Rattle.expose.specs.TopCall.{Name, listed_files, max_file, Seen, IsUsage, IsReadFault, IsTooLong, AreListable, IsBoundsRefused, IsTooMany, IsScriptRefused, ListAnswer, IsAnswered, IsDecided, ToldList, HeldList, IsUnfailed, AreNoBounds, IsNoScript, AreAccepted, IsOverlong}
 
 abbrev some_files : Name × Name → Option (Name × Name)
 some_files f = Some f
@@ -92,13 +92,13 @@ formed b = Ok b
 same_bounds : (bounds : List ℕ) (a b : Bounds) → form bounds ≡ Ok a → form bounds ≡ Ok b → a ≡ b
 same_bounds bounds a b p q = let e : formed a ≡ formed b = sym p ∙ q in cc
 
-many_or_few : (bounds : List ℕ) (a b : Bounds) → form bounds ≡ Ok a → max_inputs < length (within a.inputs) → IsAccepted bounds b → ⊥
+many_or_few : (bounds : List ℕ) (a b : Bounds) → form bounds ≡ Ok a → max_inputs < length (within a.inputs) → AreListable bounds b → ⊥
 many_or_few bounds a b p many h =
     let e : a ≡ b = same_bounds bounds a b p h.formed in
     omega (arith, subst (λ (x : Bounds). max_inputs < length (within x.inputs)) e many, h.few)
 
 -- accepted bounds are not refused
-refused_or_accepted : (bounds : List ℕ) (b : Bounds) → AreNoBounds bounds → IsAccepted bounds b → ⊥
+refused_or_accepted : (bounds : List ℕ) (b : Bounds) → AreNoBounds bounds → AreListable bounds b → ⊥
 refused_or_accepted bounds b none h = elim none [ inl r ↦ ok_or_not bounds b r.0 h.formed r.1 | inr m ↦ many_or_few bounds m.0 b m.1 m.2 h ]
 
 pub only_6 : (script bounds : List ℕ) (number : ℕ) (text : List ℕ) → ListAnswer script bounds number text → AreNoBounds bounds → number ≡ 6

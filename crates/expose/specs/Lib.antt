@@ -1,9 +1,1 @@
-pub mod Tokens
-pub mod Grammar
-pub mod Lexing
-pub mod Reading
-pub mod Answers
-pub mod Runs
-pub mod Lines
-pub mod Listing
 pub mod TopCall

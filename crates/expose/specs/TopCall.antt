@@ -10,10 +10,10 @@ use Rattle.path_core.specs.declared.bounds.BoundsRefusal.TheVariants as refusal
 use Rattle.path_core.specs.Form.{form}
 use Rattle.path_core.specs.Inputs.{within}
 use Rattle.js_ast.specs.declared.tree.Script.{Script}
-use Rattle.expose.specs.declared.report.Report.{Report}
-use Rattle.expose.specs.Grammar.{Spells}
-use Rattle.expose.specs.Lines.{report_text}
-use Rattle.expose.specs.Listing.{max_inputs, IsListed}
+use Rattle.report_text.specs.declared.report.Report.{Report}
+use Rattle.small_parser.specs.Grammar.{Spells}
+use Rattle.report_text.specs.Lines.{report_text}
+use Rattle.explorer.specs.Listing.{max_inputs, IsListed}
 
 abbrev pub Name : Type 0
 Name = List ℕ
@@ -117,15 +117,15 @@ pub record IsTooMany (bounds : List ℕ) (number : ℕ) (text : List ℕ) : Type
   pub number_is : number ≡ 6
   pub text_is : text ≡ codes "bounds refused: too many\n"
 
--- the bounds are accepted
-pub record IsAccepted (bounds : List ℕ) (accepted : Bounds) : Type 0 where
+-- bounds stand, with few enough inputs to list
+pub record AreListable (bounds : List ℕ) (accepted : Bounds) : Type 0 where
   pub formed : form bounds ≡ Ok accepted
   pub few : length (within accepted.inputs) ≤ max_inputs
 
 -- no script stands in the first file
 pub record IsScriptRefused (script bounds : List ℕ) (number : ℕ) (text : List ℕ) : Type 0 where
   pub accepted : Bounds
-  pub formed : IsAccepted bounds accepted
+  pub formed : AreListable bounds accepted
   pub none : (s : Script) → ¬ Spells script s
   pub number_is : number ≡ 5
   pub text_is : (at : ℕ) × (text ≡ codes "script refused at " ++ decimal at ++ codes ": syntax\n")
@@ -136,7 +136,7 @@ pub record IsListing (script bounds : List ℕ) (number : ℕ) (text : List ℕ)
   pub accepted : Bounds
   pub report : Report
   pub spells : Spells script spelt
-  pub formed : IsAccepted bounds accepted
+  pub formed : AreListable bounds accepted
   pub listed : IsListed spelt accepted report
   pub number_is : number ≡ 0
   pub text_is : text ≡ report_text report
@@ -164,11 +164,9 @@ pub record IsAnswered (words : List Name) (seen : Seen) (number : ℕ) (text : L
 abbrev pub IsDecided : List Name → Seen → ℕ → List ℕ → Type 0
 IsDecided words seen number text = IsUsage words seen number text ⊎ (IsReadFault words seen number text ⊎ (IsTooLong words seen number text ⊎ IsAnswered words seen number text))
 
--- what was decided was written, whole
-pub record IsWritten (words : List Name) (seen : Seen) (old new : Option (List ℕ)) (number : ℕ) : Type 0 where
-  pub text : List ℕ
-  pub decided : IsDecided words seen number text
-  pub written : Appends old new text
+-- this text was written, whole
+abbrev pub Writes : (List ℕ → Type 0) → Option (List ℕ) → Option (List ℕ) → Type 0
+Writes P old new = (text : List ℕ) × P text × Appends old new text
 
 -- a front of what was decided was written, and not all of it, since the sink failed
 pub record IsWriteFault (words : List Name) (seen : Seen) (old new : Option (List ℕ)) (before now : ℕ) : Type 0 where
@@ -201,31 +199,17 @@ pub record IsUnfailed (number : ℕ) : Type 0 where
   pub no_write_fault : number ≢ 4
   pub memory : number ≢ 7
 
--- the bytes spell a script and form bounds, and the report that lists its paths was written, exactly
-pub record ListsPaths (script bounds : List ℕ) (old new : Option (List ℕ)) : Type 0 where
-  pub spelt : Script
-  pub accepted : Bounds
-  pub report : Report
-  pub spells : Spells script spelt
-  pub formed : IsAccepted bounds accepted
-  pub listed : IsListed spelt accepted report
-  pub written : Appends old new (report_text report)
-
 -- no bounds stand in the bytes, or they have more inputs than are listed
 abbrev pub AreNoBounds : List ℕ → Type 0
 AreNoBounds bounds = ((refused : BoundsRefusal) × (form bounds ≡ Err refused)) ⊎ ((accepted : Bounds) × (form bounds ≡ Ok accepted) × (max_inputs < length (within accepted.inputs)))
 
 -- the bounds are accepted, and the bytes spell no script
 abbrev pub IsNoScript : List ℕ → List ℕ → Type 0
-IsNoScript script bounds = (accepted : Bounds) × IsAccepted bounds accepted × ((s : Script) → ¬ Spells script s)
+IsNoScript script bounds = (accepted : Bounds) × AreListable bounds accepted × ((s : Script) → ¬ Spells script s)
 
 -- both are accepted
 abbrev pub AreAccepted : List ℕ → List ℕ → Type 0
-AreAccepted script bounds = (accepted : Bounds) × (spelt : Script) × IsAccepted bounds accepted × Spells script spelt
-
--- this text was written
-abbrev pub Writes : (List ℕ → Type 0) → Option (List ℕ) → Option (List ℕ) → Type 0
-Writes P old new = (text : List ℕ) × P text × Appends old new text
+AreAccepted script bounds = (accepted : Bounds) × (spelt : Script) × AreListable bounds accepted × Spells script spelt
 
 -- the first file that is told to be longer than the limit, behind those that are held within it
 abbrev pub IsOverlong : List Name → (Name → Told) → Type 0

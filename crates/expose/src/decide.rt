@@ -5,13 +5,12 @@ ghost use Rattle.std.specs.Option.{option_map};
 ghost use Rattle.js_units.specs.Quoted.{quoted};
 ghost use Rattle.expose.specs.TopCall.{listed_files, names, seen_by, IsDecided, max_file, refusal_text, ListAnswer};
 
-use crate::listing::list_all;
-use crate::parser::parse_script;
-use crate::refusal::ScriptRefusal;
-use crate::report::write_report;
 use ex_base::{Files, Load};
+use explorer::list_all;
 use js_units::{NoMemory, Units, escape};
 use path_core::{BoundsRefusal, count, read_bounds};
+use report_text::write_report;
+use small_parser::{ScriptRefusal, parse_script};
 use std::alloc::Global;
 
 /// A status, and the text that is written with it.

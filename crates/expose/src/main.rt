@@ -2,16 +2,7 @@
 #![tactic(auto)]
 
 mod decide;
-mod lexer;
-mod listing;
-mod machine;
-mod parser;
-mod refusal;
-mod report;
-mod statements;
-mod token;
 mod top;
-mod words;
 
 use ex_base::{DiskFiles, OutSink};
 use std::env;

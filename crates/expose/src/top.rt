@@ -2,7 +2,7 @@
 
 ghost use Rattle.std.specs.Prelude.{◌≡◌, ◌≢◌, ◌<◌, ◌⊎◌, ℕ, List, None};
 ghost use Rattle.std.specs.Io.KnownBytes.{Appends, Keeps};
-ghost use Rattle.expose.specs.TopCall.{listed_files, usage, names, seen_by, Writes, IsReadFault, IsTooLong, IsBoundsRefused, IsTooMany, IsScriptRefused, IsWritten, IsWriteFault, IsUnfailed, ToldList, HeldList, IsOverlong, AreNoBounds, IsNoScript, AreAccepted, ListsPaths};
+ghost use Rattle.expose.specs.TopCall.{listed_files, usage, names, seen_by, Writes, IsReadFault, IsTooLong, IsBoundsRefused, IsTooMany, IsScriptRefused, IsListing, IsDecided, IsWriteFault, IsUnfailed, ToldList, HeldList, IsOverlong, AreNoBounds, IsNoScript, AreAccepted};
 
 use crate::decide::decide;
 use ex_base::{Files, Sink, WriteFault, write_all};
@@ -32,7 +32,7 @@ pub fn run<R: Threads + Sync, F: Files, K: Sink>(
     // A fault of the sink takes the place of what was decided, a proper front of which was written.
     ensures write_fault { result.number ≡ 4 → IsWriteFault (names words.now) (seen_by (F.held files.old) (F.last files.new) (F.faults files.old) (F.faults files.new)) (K.written out.old) (K.written out.new) (K.faults out.old) (K.faults out.new) }
     // Any other status is what was decided, and its text is written.
-    ensures decided { result.number ≢ 7 → result.number ≢ 4 → IsWritten (names words.now) (seen_by (F.held files.old) (F.last files.new) (F.faults files.old) (F.faults files.new)) (K.written out.old) (K.written out.new) result.number }
+    ensures decided { result.number ≢ 7 → result.number ≢ 4 → Writes (λ text. IsDecided (names words.now) (seen_by (F.held files.old) (F.last files.new) (F.faults files.old) (F.faults files.new)) result.number text) (K.written out.old) (K.written out.new) }
 
     // The usage line comes exactly where the words are no form.
     ensures usage { result.number ≡ 2 → (listed_files (names words.now) ≡ None) × Appends (K.written out.old) (K.written out.new) usage }
@@ -55,7 +55,7 @@ pub fn run<R: Threads + Sync, F: Files, K: Sink>(
     ensures script_refused_only { (script bounds : List ℕ) → HeldList (names words.now) (F.held files.old) script bounds → IsNoScript script bounds → IsUnfailed result.number → result.number ≡ 5 }
 
     // The paths are listed exactly where both are accepted: the printed lines are the paths.
-    ensures listed { (script bounds : List ℕ) → ToldList (names words.now) (F.held files.old) script bounds → result.number ≡ 0 → ListsPaths script bounds (K.written out.old) (K.written out.new) }
+    ensures listed { (script bounds : List ℕ) → ToldList (names words.now) (F.held files.old) script bounds → result.number ≡ 0 → Writes (λ text. IsListing script bounds result.number text) (K.written out.old) (K.written out.new) }
     ensures listed_only { (script bounds : List ℕ) → HeldList (names words.now) (F.held files.old) script bounds → AreAccepted script bounds → IsUnfailed result.number → result.number ≡ 0 }
 {
     match decide(alloc, words, files) {

@@ -6,8 +6,8 @@ use Rattle.js_ast.specs.Meaning.{path_by}
 use Rattle.path_core.specs.declared.path.Event.{Event}
 use Rattle.path_core.specs.declared.path.Path.{Path}
 use Rattle.path_core.specs.declared.path.End.{End}
-use Rattle.expose.specs.declared.machine.Progress.{Progress}
-use Rattle.expose.specs.Runs.{place_of, resumes, reaches}
+use Rattle.js_machine.specs.declared.machine.Progress.{Progress}
+use Rattle.js_machine.specs.Runs.{place_of, resumes, reaches}
 
 -- nothing more is shown
 pub resumes_done : (turns : ℕ) (p : Progress) (c : Completion) → resumes p (done (place_of turns p) c) ≡ reaches turns p c

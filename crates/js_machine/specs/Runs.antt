@@ -2,8 +2,8 @@
 use Rattle.std.specs.Prelude.{ℕ, ℤ, Bool, [], length, map, Option, Some, None, Result, Ok, Err}
 use Rattle.path_core.specs.declared.path.End.{End}
 use Rattle.js_ast.specs.Running.{int, truth, made, Place, Environment, Outcome, Completion, normal, value, stops, done, after}
-use Rattle.expose.specs.declared.machine.Progress.{Progress}
-use Rattle.expose.specs.declared.machine.Scope.{Scope}
+use Rattle.js_machine.specs.declared.machine.Progress.{Progress}
+use Rattle.js_machine.specs.declared.machine.Scope.{Scope}
 
 abbrev pub environment_of : Scope → Environment
 environment_of scope = record { inputs = scope.inputs.now; values = scope.values.now; turns = scope.turns }

@@ -1,6 +1,6 @@
 //! The bounds file, which is one JSON object.
 
-ghost use Rattle.std.specs.Prelude.{◌≡◌, ◌≤◌, [], true, length, map, codes, All, IfOk};
+ghost use Rattle.std.specs.Prelude.{◌≡◌, ◌≤◌, ℕ, List, [], true, length, map, codes, All, IfOk};
 ghost use Rattle.std.specs.Option.{option_map, option_and_then};
 ghost use Rattle.serde_json.specs.Find.{get, as_array, as_str, as_integer};
 ghost use Rattle.serde_json.specs.View.{view, items_view, members_view, number_view};
@@ -51,24 +51,27 @@ fn check_version(file: &Value) -> Result<(), BoundsRefusal>
     }
 }
 
+fn field(name: Result<Units, NoMemory>) -> BoundsRefusal
+    ensures { (units : List ℕ) → IfOk name (λ n. n ≡ units) → IsField result units }
+{
+    match name {
+        Ok(name) => BoundsRefusal::Field { name },
+        Err(NoMemory) => BoundsRefusal::NoMemory,
+    }
+}
+
 /// Refused for a member by its name.
 fn refused(alloc: Global, name: &str) -> BoundsRefusal
     ensures { IsField result name.now }
 {
-    match Units::from_bytes(alloc, name.as_bytes()) {
-        Ok(name) => BoundsRefusal::Field { name },
-        Err(NoMemory) => BoundsRefusal::NoMemory,
-    }
+    field(Units::from_bytes(alloc, name.as_bytes()))
 }
 
 /// Refused for a member of the file's own choice, by the code units of its name.
 fn refused_member(alloc: Global, name: &str) -> BoundsRefusal
     ensures { IsField result (code_units name.now) }
 {
-    match Units::from_text(alloc, name) {
-        Ok(name) => BoundsRefusal::Field { name },
-        Err(NoMemory) => BoundsRefusal::NoMemory,
-    }
+    field(Units::from_text(alloc, name))
 }
 
 fn are_objects(values: &[Value]) -> bool

@@ -19,9 +19,9 @@ use Rattle.path_core.specs.declared.path.Budget.{Budget}
 use Rattle.path_core.specs.declared.path.Budget.TheVariants as budget
 use Rattle.path_core.specs.declared.path.End.{End}
 use Rattle.path_core.specs.declared.path.End.TheVariants as ends
-use Rattle.expose.specs.declared.report.Line.{Line}
-use Rattle.expose.specs.declared.report.Line.TheVariants as lines
-use Rattle.expose.specs.declared.report.Report.{Report}
+use Rattle.report_text.specs.declared.report.Line.{Line}
+use Rattle.report_text.specs.declared.report.Line.TheVariants as lines
+use Rattle.report_text.specs.declared.report.Report.{Report}
 
 -- a number in decimal, or a text between quotes
 abbrev pub value_text : InputValue → List ℕ

@@ -4,7 +4,7 @@ ghost use Rattle.std.specs.Prelude.{◌≡◌, ◌++◌, true, codes, decimal, I
 ghost use Rattle.std.specs.List.{flat_map, list_all};
 ghost use Rattle.std.specs.Fmt.{signed_decimal};
 ghost use Rattle.js_units.specs.Quoted.{quoted};
-ghost use Rattle.expose.specs.Lines.{value_text, item_text, letter, ways_text, event_text, error_text, thrown_text, why_text, budget_text, turns_text, end_text, line_text, last_text, report_text, is_ascii, is_item_spelt, is_line_spelt, is_spelt};
+ghost use Rattle.report_text.specs.Lines.{value_text, item_text, letter, ways_text, event_text, error_text, thrown_text, why_text, budget_text, turns_text, end_text, line_text, last_text, report_text, is_ascii, is_item_spelt, is_line_spelt, is_spelt};
 
 use js_units::{NoMemory, Units, escape};
 use path_core::{Budget, End, ErrorName, Event, InputValue, Path, PickKind, Thrown, Why};

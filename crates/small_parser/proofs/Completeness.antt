@@ -4,13 +4,13 @@ use Rattle.std.proofs.lemmas.List.{append-nil}
 use Rattle.js_ast.specs.declared.tree.Stmt.{Stmt}
 use Rattle.js_ast.specs.declared.tree.Stmt.TheVariants as stmt
 use Rattle.js_ast.specs.declared.tree.Test.{Test}
-use Rattle.expose.specs.declared.token.Token.{Token}
-use Rattle.expose.specs.declared.token.TokenKind.TheVariants as k
-use Rattle.expose.specs.Grammar.{mark, Phrase, Phrases, IsTest, IsNothing, IsBlock, IsAsking, IsIf, IsIfElse, IsStmt, begins_else}
-use Rattle.expose.specs.Reading.{Fails, ◌>>=◌, Parse, test_at, closes, many, turns, else_at, asked_at, if_at, block_at, stmt_step, stmt_at}
-use Rattle.expose.specs.declared.refusal.ScriptRefusal.{ScriptRefusal}
-use Rattle.expose.specs.declared.refusal.ScriptRefusal.TheVariants as refusal
-use Rattle.expose.proofs.Soundness.{stmt_sound}
+use Rattle.small_parser.specs.declared.token.Token.{Token}
+use Rattle.small_parser.specs.declared.token.TokenKind.TheVariants as k
+use Rattle.small_parser.specs.Grammar.{mark, Phrase, Phrases, IsTest, IsNothing, IsBlock, IsAsking, IsIf, IsIfElse, IsStmt, begins_else}
+use Rattle.small_parser.specs.Reading.{Fails, ◌>>=◌, Parse, test_at, closes, many, turns, else_at, asked_at, if_at, block_at, stmt_step, stmt_at}
+use Rattle.small_parser.specs.declared.refusal.ScriptRefusal.{ScriptRefusal}
+use Rattle.small_parser.specs.declared.refusal.ScriptRefusal.TheVariants as refusal
+use Rattle.small_parser.proofs.Soundness.{stmt_sound}
 
 -- each phrase of a kind takes a token, and begins with no `}`
 pub record IsPhrase (P : Phrase) : Type 0 where

@@ -4,11 +4,11 @@ use Rattle.std.specs.Prelude.{◌⊎◌, ◌||◌, ◌==◌}
 use Rattle.std.specs.List.{list_all}
 use Rattle.std.proofs.lemmas.Bool.{eqb-true, and_parts}
 use Rattle.std.proofs.lemmas.List.{append-nil}
-use Rattle.expose.specs.declared.token.Token.{Token}
-use Rattle.expose.specs.Tokens.{is_blank, spelling, Begins, Tokens}
-use Rattle.expose.specs.Lexing.{Read, after_blank, token_at}
-use Rattle.expose.proofs.Steps.{some_is}
-use Rattle.expose.proofs.Spelling.{token_sound, token_complete, spelling_some}
+use Rattle.small_parser.specs.declared.token.Token.{Token}
+use Rattle.small_parser.specs.Tokens.{is_blank, spelling, Begins, Tokens}
+use Rattle.small_parser.specs.Lexing.{Read, after_blank, token_at}
+use Rattle.small_parser.proofs.Steps.{some_is}
+use Rattle.small_parser.proofs.Spelling.{token_sound, token_complete, spelling_some}
 
 -- ---- white space
 

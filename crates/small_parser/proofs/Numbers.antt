@@ -7,11 +7,11 @@ use Rattle.std.proofs.lemmas.Bool.{le-leb, leb-true, and_parts}
 use Rattle.std.proofs.lemmas.Bool.Decides.{nat_tests}
 use Rattle.std.proofs.lemmas.Fmt.{decimal_digit, first_decimal, decimal_nonempty, digits_decimal, digits_value-decimal, decimal-digits_value}
 use Rattle.std.proofs.lemmas.Str.Parse.{IsNumeralModel, numerals_by_fold}
-use Rattle.expose.specs.declared.token.TokenKind.{TokenKind}
-use Rattle.expose.specs.declared.token.TokenKind.TheVariants as k
-use Rattle.expose.specs.Tokens.{is_digit, max_safe}
-use Rattle.expose.specs.Lexing.{with_digit, number_from, leads_with_zero, number_of}
-use Rattle.expose.proofs.Steps.{some_is, chosen}
+use Rattle.small_parser.specs.declared.token.TokenKind.{TokenKind}
+use Rattle.small_parser.specs.declared.token.TokenKind.TheVariants as k
+use Rattle.small_parser.specs.Tokens.{is_digit, max_safe}
+use Rattle.small_parser.specs.Lexing.{with_digit, number_from, leads_with_zero, number_of}
+use Rattle.small_parser.proofs.Steps.{some_is, chosen}
 
 -- each byte is a digit
 abbrev pub AllDigits : List ℕ → Type 0

@@ -2,19 +2,19 @@
 use Rattle.std.proofs.Common.{◌≡◌, ℕ, List, [], ◌∷◌, Option, Some, None, refl, sym, subst, ◌∙◌, arith}
 use Rattle.std.specs.Prelude.{Err}
 use Rattle.js_ast.specs.declared.tree.Stmt.{Stmt}
-use Rattle.expose.specs.declared.token.Token.{Token}
-use Rattle.expose.specs.declared.refusal.ScriptRefusal.{ScriptRefusal}
-use Rattle.expose.specs.declared.refusal.ScriptRefusal.TheVariants as refusal
-use Rattle.expose.specs.Tokens.{Tokens}
-use Rattle.expose.specs.Grammar.{Phrases, IsStmt, IsScript, Spells, max_nesting}
-use Rattle.expose.specs.Answers.{Answers}
-use Rattle.expose.specs.Lexing.{Lexes}
-use Rattle.expose.specs.Reading.{Fails, many, turns, stmt_at, ended, script_of}
+use Rattle.small_parser.specs.declared.token.Token.{Token}
+use Rattle.small_parser.specs.declared.refusal.ScriptRefusal.{ScriptRefusal}
+use Rattle.small_parser.specs.declared.refusal.ScriptRefusal.TheVariants as refusal
+use Rattle.small_parser.specs.Tokens.{Tokens}
+use Rattle.small_parser.specs.Grammar.{Phrases, IsStmt, IsScript, Spells, max_nesting}
+use Rattle.small_parser.specs.Answers.{Answers}
+use Rattle.small_parser.specs.Lexing.{Lexes}
+use Rattle.small_parser.specs.Reading.{Fails, many, turns, stmt_at, ended, script_of}
 use Rattle.js_ast.specs.declared.tree.Script.{Script}
-use Rattle.expose.proofs.Steps.{some_is, bind_some}
-use Rattle.expose.proofs.Lexemes.{tokens_same}
-use Rattle.expose.proofs.Soundness.{many_sound, stmt_sound}
-use Rattle.expose.proofs.Completeness.{many_complete, stmt_complete, stmt_phrase}
+use Rattle.small_parser.proofs.Steps.{some_is, bind_some}
+use Rattle.small_parser.proofs.Lexemes.{tokens_same}
+use Rattle.small_parser.proofs.Soundness.{many_sound, stmt_sound}
+use Rattle.small_parser.proofs.Completeness.{many_complete, stmt_complete, stmt_phrase}
 
 -- nothing is left behind a script
 is_ended : (body : List Stmt) (rest : List Token) (all : List Stmt) → ended body rest ≡ Some all → (rest ≡ []) × (body ≡ all)

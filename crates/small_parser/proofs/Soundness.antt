@@ -5,12 +5,12 @@ use Rattle.std.proofs.lemmas.List.{append-nil}
 use Rattle.js_ast.specs.declared.tree.Stmt.{Stmt}
 use Rattle.js_ast.specs.declared.tree.Stmt.TheVariants as stmt
 use Rattle.js_ast.specs.declared.tree.Test.{Test}
-use Rattle.expose.specs.declared.token.Token.{Token}
-use Rattle.expose.specs.declared.token.TokenKind.{TokenKind}
-use Rattle.expose.specs.declared.token.TokenKind.TheVariants as k
-use Rattle.expose.specs.Grammar.{mark, Phrase, Phrases, IsTest, IsNothing, IsBlock, IsAsking, IsIf, IsIfElse, IsStmt, is_else}
-use Rattle.expose.specs.Reading.{◌>>=◌, Parse, test_at, closes, closes_by, many, turns, after_close, after_open_round, after_close_round, else_at, asked_at, if_at, block_at, stmt_by, stmt_at}
-use Rattle.expose.proofs.Steps.{Begins, some_is, bind_some, bind_by, chosen, open_is, close_is, closing_is, is_else_token, test_is}
+use Rattle.small_parser.specs.declared.token.Token.{Token}
+use Rattle.small_parser.specs.declared.token.TokenKind.{TokenKind}
+use Rattle.small_parser.specs.declared.token.TokenKind.TheVariants as k
+use Rattle.small_parser.specs.Grammar.{mark, Phrase, Phrases, IsTest, IsNothing, IsBlock, IsAsking, IsIf, IsIfElse, IsStmt, is_else}
+use Rattle.small_parser.specs.Reading.{◌>>=◌, Parse, test_at, closes, closes_by, many, turns, after_close, after_open_round, after_close_round, else_at, asked_at, if_at, block_at, stmt_by, stmt_at}
+use Rattle.small_parser.proofs.Steps.{Begins, some_is, bind_some, bind_by, chosen, open_is, close_is, closing_is, is_else_token, test_is}
 
 -- What is read is spelt.
 abbrev pub Sound : Parse Stmt → Phrase → Type 0

@@ -10,12 +10,12 @@ use Rattle.std.proofs.lemmas.Slice.Eq.{bytes_eq-Decides}
 use Rattle.std.proofs.lemmas.List.{take-append-drop, take_at, drop_at}
 use Rattle.js_ast.specs.declared.tree.Comparison.{Comparison}
 use Rattle.js_ast.specs.declared.tree.Comparison.TheVariants as compare
-use Rattle.expose.specs.declared.token.TokenKind.{TokenKind}
-use Rattle.expose.specs.declared.token.TokenKind.TheVariants as k
-use Rattle.expose.specs.Tokens.{is_letter, is_digit, is_word_byte, comparison_text, spelling, IsKind, goes_on, IsWhole, max_safe}
-use Rattle.expose.specs.Lexing.{Read, word_length, number_of, letter_of, name_or_number, word_kind, word_at, single_mark, or_equal, two_equals, comparison_mark, mark_by, mark_at, token_at}
-use Rattle.expose.proofs.Steps.{some_is, chosen}
-use Rattle.expose.proofs.Numbers.{AllDigits, number_sound, number_complete, decimal_all, decimal_some}
+use Rattle.small_parser.specs.declared.token.TokenKind.{TokenKind}
+use Rattle.small_parser.specs.declared.token.TokenKind.TheVariants as k
+use Rattle.small_parser.specs.Tokens.{is_letter, is_digit, is_word_byte, comparison_text, spelling, IsKind, goes_on, IsWhole, max_safe}
+use Rattle.small_parser.specs.Lexing.{Read, word_length, number_of, letter_of, name_or_number, word_kind, word_at, single_mark, or_equal, two_equals, comparison_mark, mark_by, mark_at, token_at}
+use Rattle.small_parser.proofs.Steps.{some_is, chosen}
+use Rattle.small_parser.proofs.Numbers.{AllDigits, number_sound, number_complete, decimal_all, decimal_some}
 
 -- the bytes begin with this token, and this is left
 pub record Spelt (bytes : List ℕ) (x : Read) : Type 0 where

@@ -4,11 +4,11 @@ use Rattle.std.specs.Prelude.{◌⊎◌}
 use Rattle.js_ast.specs.declared.tree.Comparison.{Comparison}
 use Rattle.js_ast.specs.declared.tree.Side.{Side}
 use Rattle.js_ast.specs.declared.tree.Test.{Test}
-use Rattle.expose.specs.declared.token.Token.{Token}
-use Rattle.expose.specs.declared.token.TokenKind.{TokenKind}
-use Rattle.expose.specs.declared.token.TokenKind.TheVariants as k
-use Rattle.expose.specs.Grammar.{mark, side_of, comparison_of, IsTest, is_else}
-use Rattle.expose.specs.Reading.{◌>>=◌, side_at, comparison_at, test_at, closes_by, after_open_round, after_open_round_by, after_close_round, after_close_round_by}
+use Rattle.small_parser.specs.declared.token.Token.{Token}
+use Rattle.small_parser.specs.declared.token.TokenKind.{TokenKind}
+use Rattle.small_parser.specs.declared.token.TokenKind.TheVariants as k
+use Rattle.small_parser.specs.Grammar.{mark, side_of, comparison_of, IsTest, is_else}
+use Rattle.small_parser.specs.Reading.{◌>>=◌, side_at, comparison_at, test_at, closes_by, after_open_round, after_open_round_by, after_close_round, after_close_round_by}
 
 -- an `Option` of a known type
 abbrev some : {A : Type 0} → A → Option A

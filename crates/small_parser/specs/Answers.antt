@@ -1,8 +1,8 @@
 -- What is answered where bytes spell a script.
 use Rattle.std.specs.Prelude.{◌≡◌, Result, Ok, Err}
 use Rattle.js_ast.specs.declared.tree.Script.{Script}
-use Rattle.expose.specs.declared.refusal.ScriptRefusal.{ScriptRefusal}
-use Rattle.expose.specs.declared.refusal.ScriptRefusal.TheVariants as refusal
+use Rattle.small_parser.specs.declared.refusal.ScriptRefusal.{ScriptRefusal}
+use Rattle.small_parser.specs.declared.refusal.ScriptRefusal.TheVariants as refusal
 
 -- this script, or that memory ran out
 abbrev pub Answers : Result Script ScriptRefusal → Script → Type 0

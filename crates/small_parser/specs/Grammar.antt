@@ -7,10 +7,10 @@ use Rattle.js_ast.specs.declared.tree.Test.{Test}
 use Rattle.js_ast.specs.declared.tree.Stmt.{Stmt}
 use Rattle.js_ast.specs.declared.tree.Stmt.TheVariants as stmt
 use Rattle.js_ast.specs.declared.tree.Script.{Script}
-use Rattle.expose.specs.declared.token.Token.{Token}
-use Rattle.expose.specs.declared.token.TokenKind.{TokenKind}
-use Rattle.expose.specs.declared.token.TokenKind.TheVariants as k
-use Rattle.expose.specs.Tokens.{Tokens}
+use Rattle.small_parser.specs.declared.token.Token.{Token}
+use Rattle.small_parser.specs.declared.token.TokenKind.{TokenKind}
+use Rattle.small_parser.specs.declared.token.TokenKind.TheVariants as k
+use Rattle.small_parser.specs.Tokens.{Tokens}
 
 abbrev pub mark : TokenKind → ℕ → Token
 mark kind at = record { kind = kind; start = at }

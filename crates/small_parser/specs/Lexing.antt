@@ -3,10 +3,10 @@ use Rattle.std.specs.Prelude.{ℕ, suc, ◌+◌, ◌-◌, ◌*◌, ◌==◌, ◌
 use Rattle.std.specs.Option.{option_map}
 use Rattle.js_ast.specs.declared.tree.Comparison.{Comparison}
 use Rattle.js_ast.specs.declared.tree.Comparison.TheVariants as compare
-use Rattle.expose.specs.declared.token.Token.{Token}
-use Rattle.expose.specs.declared.token.TokenKind.{TokenKind}
-use Rattle.expose.specs.declared.token.TokenKind.TheVariants as k
-use Rattle.expose.specs.Tokens.{is_blank, is_letter, is_digit, is_word_byte, max_safe, Tokens}
+use Rattle.small_parser.specs.declared.token.Token.{Token}
+use Rattle.small_parser.specs.declared.token.TokenKind.{TokenKind}
+use Rattle.small_parser.specs.declared.token.TokenKind.TheVariants as k
+use Rattle.small_parser.specs.Tokens.{is_blank, is_letter, is_digit, is_word_byte, max_safe, Tokens}
 
 -- a token's kind, and what is left
 abbrev pub Read : Type 0

@@ -5,12 +5,12 @@ use Rattle.js_ast.specs.declared.tree.Side.{Side}
 use Rattle.js_ast.specs.declared.tree.Stmt.{Stmt}
 use Rattle.js_ast.specs.declared.tree.Stmt.TheVariants as stmt
 use Rattle.js_ast.specs.declared.tree.Test.{Test}
-use Rattle.expose.specs.declared.token.Token.{Token}
-use Rattle.expose.specs.declared.token.TokenKind.{TokenKind}
-use Rattle.expose.specs.declared.token.TokenKind.TheVariants as k
-use Rattle.expose.specs.declared.refusal.ScriptRefusal.{ScriptRefusal}
-use Rattle.expose.specs.declared.refusal.ScriptRefusal.TheVariants as refusal
-use Rattle.expose.specs.Grammar.{side_of, comparison_of, is_else, max_nesting}
+use Rattle.small_parser.specs.declared.token.Token.{Token}
+use Rattle.small_parser.specs.declared.token.TokenKind.{TokenKind}
+use Rattle.small_parser.specs.declared.token.TokenKind.TheVariants as k
+use Rattle.small_parser.specs.declared.refusal.ScriptRefusal.{ScriptRefusal}
+use Rattle.small_parser.specs.declared.refusal.ScriptRefusal.TheVariants as refusal
+use Rattle.small_parser.specs.Grammar.{side_of, comparison_of, is_else, max_nesting}
 
 infixl 10 ◌>>=◌
 abbrev pub ◌>>=◌ : {A B : Type 0} → Option A → (A → Option B) → Option B

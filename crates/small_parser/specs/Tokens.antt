@@ -3,9 +3,9 @@ use Rattle.std.specs.Prelude.{◌≡◌, ℕ, ◌+◌, ◌≤◌, ◌&&◌, ◌|
 use Rattle.std.specs.List.{list_all}
 use Rattle.js_ast.specs.declared.tree.Comparison.{Comparison}
 use Rattle.js_ast.specs.declared.tree.Comparison.TheVariants as compare
-use Rattle.expose.specs.declared.token.Token.{Token}
-use Rattle.expose.specs.declared.token.TokenKind.{TokenKind}
-use Rattle.expose.specs.declared.token.TokenKind.TheVariants as k
+use Rattle.small_parser.specs.declared.token.Token.{Token}
+use Rattle.small_parser.specs.declared.token.TokenKind.{TokenKind}
+use Rattle.small_parser.specs.declared.token.TokenKind.TheVariants as k
 
 -- white space: U+0020 and U+000A
 abbrev pub is_blank : ℕ → Bool

@@ -1,7 +1,7 @@
 //! All tokens from bytes.
 
 ghost use Rattle.std.specs.Prelude.{◌<◌, ◌^◌, length, IfOk};
-ghost use Rattle.expose.specs.Lexing.{Lexes};
+ghost use Rattle.small_parser.specs.Lexing.{Lexes};
 
 use crate::token::Token;
 use crate::words::{after_blank, token};

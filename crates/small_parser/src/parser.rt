@@ -2,8 +2,8 @@
 
 ghost use Rattle.std.specs.Prelude.{◌≡◌, ◌<◌, ◌^◌, length, IfOk};
 ghost use Rattle.js_ast.specs.declared.tree.Script.{Script};
-ghost use Rattle.expose.specs.Grammar.{Spells};
-ghost use Rattle.expose.specs.Answers.{Answers};
+ghost use Rattle.small_parser.specs.Grammar.{Spells};
+ghost use Rattle.small_parser.specs.Answers.{Answers};
 
 use crate::lexer::lex;
 use crate::refusal::ScriptRefusal;

@@ -1,7 +1,7 @@
 //! Why no script is read.
 
 ghost use Rattle.std.specs.Prelude.{◌≡◌};
-ghost use Rattle.expose.specs.declared.refusal.ScriptRefusal.TheVariants as refusal;
+ghost use Rattle.small_parser.specs.declared.refusal.ScriptRefusal.TheVariants as refusal;
 
 use js_units::NoMemory;
 use std::alloc::{AllocError, AllocFailed};

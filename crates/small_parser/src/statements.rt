@@ -2,9 +2,9 @@
 
 ghost use Rattle.std.specs.Prelude.{◌≡◌, ℕ, List, [], ◌∷◌, IfOk};
 ghost use Rattle.js_ast.specs.declared.tree.Side.TheVariants as side;
-ghost use Rattle.expose.specs.Grammar.{side_of, comparison_of, is_else};
-ghost use Rattle.expose.specs.declared.refusal.ScriptRefusal.TheVariants as refusal;
-ghost use Rattle.expose.specs.Reading.{Gives, place, side_at, comparison_at, test_at, closes, after_open_round, after_close_round, asked_at, many, turns, block_at, else_at, if_at, stmt_at, script_of};
+ghost use Rattle.small_parser.specs.Grammar.{side_of, comparison_of, is_else};
+ghost use Rattle.small_parser.specs.declared.refusal.ScriptRefusal.TheVariants as refusal;
+ghost use Rattle.small_parser.specs.Reading.{Gives, place, side_at, comparison_at, test_at, closes, after_open_round, after_close_round, asked_at, many, turns, block_at, else_at, if_at, stmt_at, script_of};
 
 use crate::refusal::ScriptRefusal;
 use crate::token::{Token, TokenKind};

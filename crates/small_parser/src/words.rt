@@ -2,8 +2,8 @@
 
 ghost use Rattle.std.specs.Prelude.{◌≡◌, ◌≤◌, length, drop, take};
 ghost use Rattle.std.specs.Option.{option_map};
-ghost use Rattle.expose.specs.Tokens.{is_blank, is_letter, is_digit, is_word_byte};
-ghost use Rattle.expose.specs.Lexing.{after_blank, word_length, number_from, leads_with_zero, number_of, letter_of, word_kind, word_at, single_mark, or_equal, two_equals, mark_at, token_at};
+ghost use Rattle.small_parser.specs.Tokens.{is_blank, is_letter, is_digit, is_word_byte};
+ghost use Rattle.small_parser.specs.Lexing.{after_blank, word_length, number_from, leads_with_zero, number_of, letter_of, word_kind, word_at, single_mark, or_equal, two_equals, mark_at, token_at};
 
 use crate::token::TokenKind;
 use js_ast::Comparison;

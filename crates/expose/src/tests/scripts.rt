@@ -1,7 +1,6 @@
 //! Scripts that are read, and the places at which others are refused.
 
-use crate::parser::parse_script;
-use crate::refusal::ScriptRefusal;
+use small_parser::{ScriptRefusal, parse_script};
 use std::alloc::Global;
 use std::test::Fail;
 

@@ -1,5 +1,5 @@
-use Rattle.expose.proofs.Picking.{picks_known, picks_new}
-use Rattle.expose.proofs.listing.add_line.Goals as goal
+use Rattle.explorer.proofs.Picking.{picks_known, picks_new}
+use Rattle.explorer.proofs.listing.add_line.Goals as goal
 
 pub returns-then-is_listed : goal.returns-then-is_listed
 returns-then-is_listed c = λ all h. picks_known all _ _ h (rw (c.as_slice.ensures, c.in_ok-path.ensures.path) at c.if-is_listed.ensures)

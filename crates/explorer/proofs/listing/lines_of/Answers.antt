@@ -1,9 +1,9 @@
 use Rattle.std.proofs.Common.{ap, arith}
 use Rattle.std.specs.Prelude.{Bool, Result, Ok}
 use Rattle.js_units.specs.declared.memory.NoMemory.{NoMemory}
-use Rattle.expose.proofs.Picking.{picks_none}
-use Rattle.expose.proofs.Places.{reached_first, reached_next}
-use Rattle.expose.proofs.listing.list_all.Goals as goal
+use Rattle.explorer.proofs.Picking.{picks_none}
+use Rattle.explorer.proofs.Places.{reached_first, reached_next}
+use Rattle.explorer.proofs.listing.lines_of.Goals as goal
 
 abbrev answered : Bool → Result Bool NoMemory
 answered b = Ok b

@@ -1,7 +1,7 @@
 use Rattle.path_core.specs.Inputs.{within}
-use Rattle.expose.specs.Listing.{line_of}
-use Rattle.expose.proofs.Places.{Reached}
-use Rattle.expose.proofs.listing.list_all.Given as goal
+use Rattle.explorer.specs.Listing.{line_of}
+use Rattle.explorer.proofs.Places.{Reached}
+use Rattle.explorer.proofs.listing.lines_of.Given as goal
 
 abbrev pub invariant-loop-place : goal.invariant-loop-place
 invariant-loop-place l = Reached (line_of l.script l.bounds) (within l.bounds.inputs) l._place l.input.values l.lines

@@ -1,6 +1,6 @@
 use Rattle.std.proofs.Common.{◌≡◌, ◌++◌, length}
-use Rattle.expose.specs.Listing.{named}
-use Rattle.expose.proofs.listing.named.Given as goal
+use Rattle.explorer.specs.Listing.{named}
+use Rattle.explorer.proofs.listing.named.Given as goal
 
 abbrev pub invariant-loop-inputs_left : goal.invariant-loop-inputs_left
 invariant-loop-inputs_left l = l.items ++ named l.inputs_left l.values_left ≡ named l.inputs l.values

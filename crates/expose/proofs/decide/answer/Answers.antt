@@ -1,7 +1,6 @@
 use Rattle.std.proofs.Common.{refl, inl, inr, arith}
 use Rattle.expose.specs.TopCall.{ListAnswer}
 use Rattle.expose.proofs.Faults.{as_told}
-use Rattle.expose.proofs.Spelt.{listed_spelt}
 use Rattle.expose.proofs.decide.answer.Goals as goal
 
 pub returns-in-Err-Syntax : goal.returns-in-Err-Syntax
@@ -14,6 +13,3 @@ returns-in-Err-Syntax c =
       number_is = refl;
       text_is = (c.in-Err-Syntax.at, refl);
     }))))
-
-pub write_report-requires : goal.write_report-requires
-write_report-requires c = listed_spelt c.in-Ok-parse_script.script c.in-Ok.bounds c.in_ok-report.report c.in-Ok.ensures.accepted c.in_ok-report.ensures

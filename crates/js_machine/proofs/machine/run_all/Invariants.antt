@@ -1,8 +1,8 @@
 use Rattle.std.proofs.Common.{◌≡◌, ◌≤◌, length, drop}
 use Rattle.js_ast.specs.Running.{event_limit}
 use Rattle.js_ast.specs.Meaning.{stmts_run}
-use Rattle.expose.specs.Runs.{environment_of, place_of, resumes}
-use Rattle.expose.proofs.machine.run_all.Given as goal
+use Rattle.js_machine.specs.Runs.{environment_of, place_of, resumes}
+use Rattle.js_machine.proofs.machine.run_all.Given as goal
 
 abbrev pub invariant-loop-stmt : goal.invariant-loop-stmt
 invariant-loop-stmt l = record {

@@ -1,7 +1,7 @@
 use Rattle.std.proofs.Common.{sym}
-use Rattle.expose.specs.Runs.{stmt_answer}
-use Rattle.expose.proofs.RunSteps.{path_reached}
-use Rattle.expose.proofs.machine.run_plain.Goals as goal
+use Rattle.js_machine.specs.Runs.{stmt_answer}
+use Rattle.js_machine.proofs.RunSteps.{path_reached}
+use Rattle.js_machine.proofs.machine.run_plain.Goals as goal
 
 pub returns-clause-path : goal.returns-clause-path
 returns-clause-path c =

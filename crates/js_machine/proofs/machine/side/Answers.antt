@@ -1,7 +1,7 @@
 use Rattle.std.proofs.Common.{pos, rules}
 use Rattle.js_ast.specs.Running.{int}
 use Rattle.js_ast.specs.Meaning.{gives}
-use Rattle.expose.proofs.machine.side.Goals as goal
+use Rattle.js_machine.proofs.machine.side.Goals as goal
 
 pub returns-in-Some-count_node-clause-meaning : goal.returns-in-Some-count_node-clause-meaning
 returns-in-Some-count_node-clause-meaning c = rw c.in-Number.is (c.in-Some-count_node.ensures.meaning c.args.scope.turns _)

@@ -1,7 +1,7 @@
 use Rattle.std.proofs.Common.{◌≡◌, ◌++◌, length}
 use Rattle.std.specs.List.{flat_map}
-use Rattle.expose.specs.Lines.{event_text}
-use Rattle.expose.proofs.report.push_events.Given as goal
+use Rattle.report_text.specs.Lines.{event_text}
+use Rattle.report_text.proofs.report.push_events.Given as goal
 
 abbrev pub invariant-loop-left : goal.invariant-loop-left
 invariant-loop-left l = l.out.items ++ flat_map event_text l.left ≡ l.fn.out.items ++ flat_map event_text l.events

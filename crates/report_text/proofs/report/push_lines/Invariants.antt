@@ -1,7 +1,7 @@
 use Rattle.std.proofs.Common.{◌≡◌, ◌++◌, true, length}
 use Rattle.std.specs.List.{flat_map, list_all}
-use Rattle.expose.specs.Lines.{line_text, is_line_spelt}
-use Rattle.expose.proofs.report.push_lines.Given as goal
+use Rattle.report_text.specs.Lines.{line_text, is_line_spelt}
+use Rattle.report_text.proofs.report.push_lines.Given as goal
 
 abbrev pub invariant-loop-left : goal.invariant-loop-left
 invariant-loop-left l = record {

@@ -1,7 +1,7 @@
 use Rattle.std.proofs.Common.{◌≡◌, ◌++◌, true, length}
 use Rattle.std.specs.List.{list_all}
-use Rattle.expose.specs.Lines.{is_ascii}
-use Rattle.expose.proofs.report.push_name.Given as goal
+use Rattle.report_text.specs.Lines.{is_ascii}
+use Rattle.report_text.proofs.report.push_name.Given as goal
 
 abbrev pub invariant-loop-left : goal.invariant-loop-left
 invariant-loop-left l = record {

@@ -1,6 +1,6 @@
 use Rattle.std.proofs.Common.{sym, refl, ◌∙◌}
-use Rattle.expose.proofs.Lexemes.{read_start, read_more, read_falls, read_end, read_stop}
-use Rattle.expose.proofs.lexer.lex.Goals as goal
+use Rattle.small_parser.proofs.Lexemes.{read_start, read_more, read_falls, read_end, read_stop}
+use Rattle.small_parser.proofs.lexer.lex.Goals as goal
 
 pub loop-left-init : goal.loop-left-init
 loop-left-init c = rw (c.new-tokens.ensures.items, c.after_blank-left.ensures) (read_start c.args.bytes.now)

@@ -1,6 +1,6 @@
 use Rattle.std.proofs.Common.{length}
-use Rattle.expose.proofs.Lexemes.{IsRead}
-use Rattle.expose.proofs.lexer.lex.Given as goal
+use Rattle.small_parser.proofs.Lexemes.{IsRead}
+use Rattle.small_parser.proofs.lexer.lex.Given as goal
 
 abbrev pub invariant-loop-left : goal.invariant-loop-left
 invariant-loop-left l = IsRead l.bytes l.tokens.items l.left

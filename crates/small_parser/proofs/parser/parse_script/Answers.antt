@@ -1,7 +1,7 @@
 use Rattle.std.proofs.lemmas.Result.{err_from_is_err_and}
-use Rattle.expose.specs.Grammar.{Spells}
-use Rattle.expose.proofs.Scripts.{spells_unique, spells_read, refused_answers}
-use Rattle.expose.proofs.parser.parse_script.Goals as goal
+use Rattle.small_parser.specs.Grammar.{Spells}
+use Rattle.small_parser.proofs.Scripts.{spells_unique, spells_read, refused_answers}
+use Rattle.small_parser.proofs.parser.parse_script.Goals as goal
 
 pub returns-in_err-lexed-clause-unique : goal.returns-in_err-lexed-clause-unique
 returns-in_err-lexed-clause-unique c = spells_unique c.args.bytes.now

@@ -1,8 +1,8 @@
 use Rattle.std.proofs.Common.{sym, ◌∙◌}
 use Rattle.std.proofs.lemmas.Result.{err_from_is_err_and}
-use Rattle.expose.specs.Reading.{stmt_at}
-use Rattle.expose.proofs.Completeness.{stmt_falls, many_more, many_ended, many_refused, fails_along}
-use Rattle.expose.proofs.statements.+stmt.Goals as goal
+use Rattle.small_parser.specs.Reading.{stmt_at}
+use Rattle.small_parser.proofs.Completeness.{stmt_falls, many_more, many_ended, many_refused, fails_along}
+use Rattle.small_parser.proofs.statements.+stmt.Goals as goal
 
 pub stmts-returns-in_err-next : goal.stmts-returns-in_err-next
 stmts-returns-in_err-next t c =

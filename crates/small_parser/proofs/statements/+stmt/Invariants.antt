@@ -1,6 +1,6 @@
 use Rattle.std.proofs.Common.{◌≡◌, [], ◌+◌, ◌*◌, length}
-use Rattle.expose.specs.Reading.{many, turns, stmt_at}
-use Rattle.expose.proofs.statements.+stmt.Given as goal
+use Rattle.small_parser.specs.Reading.{many, turns, stmt_at}
+use Rattle.small_parser.proofs.statements.+stmt.Given as goal
 
 abbrev pub decreases-block : goal.decreases-block
 decreases-block l = 3 * l.depth + 2

@@ -1,6 +1,6 @@
 use Rattle.std.proofs.Common.{◌≡◌, length}
-use Rattle.expose.specs.Lexing.{after_blank}
-use Rattle.expose.proofs.words.after_blank.Given as goal
+use Rattle.small_parser.specs.Lexing.{after_blank}
+use Rattle.small_parser.proofs.words.after_blank.Given as goal
 
 abbrev pub invariant-loop-left : goal.invariant-loop-left
 invariant-loop-left l = after_blank l.left ≡ after_blank l.bytes

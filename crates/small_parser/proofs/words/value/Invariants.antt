@@ -1,7 +1,7 @@
 use Rattle.std.proofs.Common.{◌≡◌, ◌≤◌, length}
-use Rattle.expose.specs.Tokens.{max_safe}
-use Rattle.expose.specs.Lexing.{number_from}
-use Rattle.expose.proofs.words.value.Given as goal
+use Rattle.small_parser.specs.Tokens.{max_safe}
+use Rattle.small_parser.specs.Lexing.{number_from}
+use Rattle.small_parser.proofs.words.value.Given as goal
 
 abbrev pub invariant-loop-left : goal.invariant-loop-left
 invariant-loop-left l = (number_from l.value l.left ≡ number_from 0 l.digits) × (l.value ≤ max_safe)

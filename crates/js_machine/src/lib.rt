@@ -1,0 +1,6 @@
+//! Runs of a script on one input.
+#![tactic(auto)]
+
+mod machine;
+
+pub use machine::run_plain;
