@@ -1,0 +1,4 @@
+pub mod Known
+pub mod Units
+pub mod Stamping
+pub mod Sound
