@@ -1,0 +1,16 @@
+pub mod Spans
+pub mod Numerals
+pub mod Entries
+pub mod Pieces
+pub mod Gaps
+pub mod Quoting
+pub mod Closing
+pub mod Slashes
+pub mod PatternEnds
+pub mod Families
+pub mod Bests
+pub mod MarkBests
+pub mod NumberBests
+pub mod Ends
+pub mod TokenValues
+pub mod Onlys

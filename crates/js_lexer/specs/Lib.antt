@@ -1,0 +1,16 @@
+pub mod Classes
+pub mod Runs
+pub mod Tables
+pub mod Trivia
+pub mod Skipping
+pub mod Words
+pub mod Numbers
+pub mod Digits
+pub mod Texts
+pub mod Escapes
+pub mod Patterns
+pub mod Bodies
+pub mod Lexemes
+pub mod Tokens
+pub mod Values
+pub mod Reading
