@@ -1,0 +1,5 @@
+pub mod Waiting
+pub mod Repeating
+pub mod Runs
+pub mod Starts
+pub mod Cutting
