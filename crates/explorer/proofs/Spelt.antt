@@ -9,7 +9,7 @@ use Rattle.path_core.specs.declared.bounds.Declared.{Declared}
 use Rattle.path_core.specs.Names.{is_letter, is_name_byte, is_word}
 use Rattle.path_core.specs.Accepted.{IsAccepted}
 use Rattle.path_core.specs.Inputs.{Values, within}
-use Rattle.js_ast.specs.declared.tree.Script.{Script}
+use Rattle.small_ast.specs.declared.tree.Script.{Script}
 use Rattle.report_text.specs.declared.report.Line.{Line}
 use Rattle.report_text.specs.declared.report.Report.{Report}
 use Rattle.report_text.specs.Lines.{is_ascii, is_item_spelt, is_line_spelt, is_spelt}

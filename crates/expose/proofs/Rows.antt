@@ -11,13 +11,13 @@ use Rattle.path_core.specs.declared.path.Path.{Path}
 use Rattle.path_core.specs.declared.path.Event.TheVariants.{Pick}
 use Rattle.path_core.specs.declared.path.PickKind.TheVariants.{Branch}
 use Rattle.path_core.specs.declared.path.End.TheVariants.{Done}
-use Rattle.js_ast.specs.declared.tree.Comparison.TheVariants.{Less, Greater, Equal}
-use Rattle.js_ast.specs.declared.tree.Side.TheVariants as side
-use Rattle.js_ast.specs.declared.tree.Test.{Test}
-use Rattle.js_ast.specs.declared.tree.Stmt.TheVariants.{Block, If}
-use Rattle.js_ast.specs.declared.tree.Script.{Script}
-use Rattle.js_ast.specs.Running.{count, branch}
-use Rattle.js_ast.proofs.Opens.{run_if, run_block}
+use Rattle.small_ast.specs.declared.tree.Comparison.TheVariants.{Less, Greater, Equal}
+use Rattle.small_ast.specs.declared.tree.Side.TheVariants as side
+use Rattle.small_ast.specs.declared.tree.Test.{Test}
+use Rattle.small_ast.specs.declared.tree.Stmt.TheVariants.{Block, If}
+use Rattle.small_ast.specs.declared.tree.Script.{Script}
+use Rattle.small_ast.specs.Running.{count, branch}
+use Rattle.small_ast.proofs.Opens.{run_if, run_block}
 use Rattle.small_parser.specs.declared.token.Token.{Token}
 use Rattle.small_parser.specs.declared.token.TokenKind.TheVariants as k
 use Rattle.report_text.specs.declared.report.Line.{Line}

@@ -9,7 +9,7 @@ use Rattle.path_core.specs.declared.bounds.BoundsRefusal.{BoundsRefusal}
 use Rattle.path_core.specs.declared.bounds.BoundsRefusal.TheVariants as refusal
 use Rattle.path_core.specs.Form.{form}
 use Rattle.path_core.specs.Inputs.{within}
-use Rattle.js_ast.specs.declared.tree.Script.{Script}
+use Rattle.small_ast.specs.declared.tree.Script.{Script}
 use Rattle.report_text.specs.declared.report.Report.{Report}
 use Rattle.small_parser.specs.Grammar.{Spells}
 use Rattle.report_text.specs.Lines.{report_text}

@@ -1,8 +1,8 @@
 -- Steps of a run.
 use Rattle.std.proofs.Common.{◌≡◌, ℕ, List, [], ◌∷◌, map, refl, ap, sym, ◌∙◌, append_assoc}
 use Rattle.std.proofs.lemmas.List.{append-nil}
-use Rattle.js_ast.specs.Running.{Place, Outcome, Item, Completion, made, done, after, bind, events_of, end_of}
-use Rattle.js_ast.specs.Meaning.{path_by}
+use Rattle.small_ast.specs.Running.{Place, Outcome, Item, Completion, made, done, after, bind, events_of, end_of}
+use Rattle.small_ast.specs.Meaning.{path_by}
 use Rattle.path_core.specs.declared.path.Event.{Event}
 use Rattle.path_core.specs.declared.path.Path.{Path}
 use Rattle.path_core.specs.declared.path.End.{End}

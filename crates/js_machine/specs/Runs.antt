@@ -1,7 +1,7 @@
 -- The progress of a run, and the place and the items that it stands for.
 use Rattle.std.specs.Prelude.{ℕ, ℤ, Bool, [], length, map, Option, Some, None, Result, Ok, Err}
 use Rattle.path_core.specs.declared.path.End.{End}
-use Rattle.js_ast.specs.Running.{int, truth, made, Place, Environment, Outcome, Completion, normal, value, stops, done, after}
+use Rattle.small_ast.specs.Running.{int, truth, made, Place, Environment, Outcome, Completion, normal, value, stops, done, after}
 use Rattle.js_machine.specs.declared.machine.Progress.{Progress}
 use Rattle.js_machine.specs.declared.machine.Scope.{Scope}
 

@@ -1,11 +1,11 @@
 //! Runs of a script on one input.
 
 ghost use Rattle.std.specs.Prelude.{◌≡◌, ◌≤◌, ℕ, length, IfOk, OnOk};
-ghost use Rattle.js_ast.specs.Running.{int, Place, Outcome, done, count, branch, end_of, event_limit};
-ghost use Rattle.js_ast.specs.Meaning.{compare, input_number, input_of, side_run, test_run, stmt_run, stmts_run, path_of};
+ghost use Rattle.small_ast.specs.Running.{int, Place, Outcome, done, count, branch, end_of, event_limit};
+ghost use Rattle.small_ast.specs.Meaning.{compare, input_number, input_of, side_run, test_run, stmt_run, stmts_run, path_of};
 ghost use Rattle.js_machine.specs.Runs.{environment_of, place_of, resumes, reaches, number_answer, truth_answer, stmt_answer, counts, goes_on};
 
-use js_ast::{Comparison, Script, Side, Stmt, Test};
+use small_ast::{Comparison, Script, Side, Stmt, Test};
 use js_units::{NoMemory, Units};
 use path_core::{Bounds, Budget, Declared, End, Event, Input, InputValue, Path, PickKind, Why};
 use sqlite_items::Items;
@@ -31,7 +31,7 @@ const NODE_LIMIT: u64 = 50_000_000;
 const EVENT_LIMIT: usize = 4096;
 
 /// Counts one node, at a site, or tells the end of a run that has used them up.
-#[tactic(auto, unfolding(js_ast::specs::Running::count))]
+#[tactic(auto, unfolding(small_ast::specs::Running::count))]
 fn count_node(progress: &mut Progress, site: u32) -> Option<End>
     ensures meaning { (turns : ℕ) (go : Place → Outcome) → count site (place_of turns progress.old) go ≡ counts turns progress.new result go }
     ensures events { progress.new.events ≡ progress.old.events }
@@ -131,7 +131,7 @@ fn ask(scope: Scope, test: &Test, progress: &mut Progress) -> Result<bool, End>
 }
 
 /// Makes the event of a test, unless the run has used them up.
-#[tactic(auto, unfolding(js_ast::specs::Running::branch))]
+#[tactic(auto, unfolding(small_ast::specs::Running::branch))]
 fn make_branch(progress: &mut Progress, site: u32, holds: bool) -> Result<Option<End>, NoMemory>
     ensures meaning { IfOk result (λ ended. (turns : ℕ) (go : Place → Outcome) → resumes progress.old (branch site holds (place_of turns progress.old) go) ≡ goes_on turns progress.new ended go) }
     ensures few { OnOk result (length progress.old.events ≤ event_limit → length progress.new.events ≤ event_limit) }

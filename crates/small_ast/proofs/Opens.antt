@@ -1,11 +1,11 @@
 -- One level of the meaning of statements.
 use Rattle.std.proofs.Common.{◌≡◌, ℕ, List, Some, None, map, ap, ◌∙◌, sym}
-use Rattle.js_ast.specs.declared.tree.Test.{Test}
-use Rattle.js_ast.specs.declared.tree.Stmt.{Stmt, fold-roll-Stmt}
-use Rattle.js_ast.specs.declared.tree.Stmt.TheOpen.{Stmt-F}
-use Rattle.js_ast.specs.declared.tree.Stmt.TheVariants as s
-use Rattle.js_ast.specs.Running.{Meaning}
-use Rattle.js_ast.specs.Meaning.{of_stmt, stmt_run}
+use Rattle.small_ast.specs.declared.tree.Test.{Test}
+use Rattle.small_ast.specs.declared.tree.Stmt.{Stmt, fold-roll-Stmt}
+use Rattle.small_ast.specs.declared.tree.Stmt.TheOpen.{Stmt-F}
+use Rattle.small_ast.specs.declared.tree.Stmt.TheVariants as s
+use Rattle.small_ast.specs.Running.{Meaning}
+use Rattle.small_ast.specs.Meaning.{of_stmt, stmt_run}
 
 pub run_block : (site : ℕ) (body : List Stmt) → stmt_run (s.Block site body) ≡ of_stmt (Stmt-F.Block site (map stmt_run body))
 run_block site body = ap stmt_run (sym (s.rolls-Block site body)) ∙ fold-roll-Stmt Meaning of_stmt (Stmt-F.Block site body)

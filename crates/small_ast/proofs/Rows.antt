@@ -7,13 +7,13 @@ use Rattle.path_core.specs.declared.path.Event.TheVariants.{Pick}
 use Rattle.path_core.specs.declared.path.PickKind.TheVariants.{Branch}
 use Rattle.path_core.specs.declared.path.End.TheVariants.{Done, Left}
 use Rattle.path_core.specs.declared.path.Why.TheVariants as why
-use Rattle.js_ast.specs.declared.tree.Comparison.TheVariants.{Less, Greater, Equal}
-use Rattle.js_ast.specs.declared.tree.Side.TheVariants.{Name, Number}
-use Rattle.js_ast.specs.declared.tree.Stmt.TheVariants.{Block, If}
-use Rattle.js_ast.specs.declared.tree.Script.{Script}
-use Rattle.js_ast.specs.Running.{count, branch}
-use Rattle.js_ast.specs.Meaning.{path_of}
-use Rattle.js_ast.proofs.Opens.{run_block, run_if}
+use Rattle.small_ast.specs.declared.tree.Comparison.TheVariants.{Less, Greater, Equal}
+use Rattle.small_ast.specs.declared.tree.Side.TheVariants.{Name, Number}
+use Rattle.small_ast.specs.declared.tree.Stmt.TheVariants.{Block, If}
+use Rattle.small_ast.specs.declared.tree.Script.{Script}
+use Rattle.small_ast.specs.Running.{count, branch}
+use Rattle.small_ast.specs.Meaning.{path_of}
+use Rattle.small_ast.proofs.Opens.{run_block, run_if}
 
 -- the bounds of one whole number named n
 abbrev with_n : ℕ → Bounds

@@ -6,15 +6,15 @@ use Rattle.path_core.specs.declared.path.InputValue.{InputValue}
 use Rattle.path_core.specs.declared.path.InputValue.TheVariants as input
 use Rattle.path_core.specs.declared.path.Path.{Path}
 use Rattle.path_core.specs.declared.path.Why.TheVariants as why
-use Rattle.js_ast.specs.declared.tree.Comparison.{Comparison}
-use Rattle.js_ast.specs.declared.tree.Comparison.TheVariants.{Less, Greater, LessEqual, GreaterEqual, Equal, NotEqual}
-use Rattle.js_ast.specs.declared.tree.Side.{Side}
-use Rattle.js_ast.specs.declared.tree.Side.TheVariants.{Name, Number}
-use Rattle.js_ast.specs.declared.tree.Test.{Test}
-use Rattle.js_ast.specs.declared.tree.Stmt.{Stmt, fold-Stmt}
-use Rattle.js_ast.specs.declared.tree.Stmt.TheOpen.{Stmt-F}
-use Rattle.js_ast.specs.declared.tree.Script.{Script}
-use Rattle.js_ast.specs.Running.{Value, int, truth, normal, value, Place, Environment, Outcome, Meaning, done, bind, on_value, on_normal, count, bit, branch, leaves, end_of, events_of}
+use Rattle.small_ast.specs.declared.tree.Comparison.{Comparison}
+use Rattle.small_ast.specs.declared.tree.Comparison.TheVariants.{Less, Greater, LessEqual, GreaterEqual, Equal, NotEqual}
+use Rattle.small_ast.specs.declared.tree.Side.{Side}
+use Rattle.small_ast.specs.declared.tree.Side.TheVariants.{Name, Number}
+use Rattle.small_ast.specs.declared.tree.Test.{Test}
+use Rattle.small_ast.specs.declared.tree.Stmt.{Stmt, fold-Stmt}
+use Rattle.small_ast.specs.declared.tree.Stmt.TheOpen.{Stmt-F}
+use Rattle.small_ast.specs.declared.tree.Script.{Script}
+use Rattle.small_ast.specs.Running.{Value, int, truth, normal, value, Place, Environment, Outcome, Meaning, done, bind, on_value, on_normal, count, bit, branch, leaves, end_of, events_of}
 
 -- ---- operators
 

@@ -1,9 +1,9 @@
 -- What is spelt so is read.
 use Rattle.std.proofs.Common.{◌≡◌, ℕ, zero, suc, ◌<◌, ◌≤◌, Bool, true, false, cond, List, [], ◌∷◌, ◌++◌, length, Option, Some, None, refl, sym, ap, ◌∙◌, append_assoc, arith, inl, inr}
 use Rattle.std.proofs.lemmas.List.{append-nil}
-use Rattle.js_ast.specs.declared.tree.Stmt.{Stmt}
-use Rattle.js_ast.specs.declared.tree.Stmt.TheVariants as stmt
-use Rattle.js_ast.specs.declared.tree.Test.{Test}
+use Rattle.small_ast.specs.declared.tree.Stmt.{Stmt}
+use Rattle.small_ast.specs.declared.tree.Stmt.TheVariants as stmt
+use Rattle.small_ast.specs.declared.tree.Test.{Test}
 use Rattle.small_parser.specs.declared.token.Token.{Token}
 use Rattle.small_parser.specs.declared.token.TokenKind.TheVariants as k
 use Rattle.small_parser.specs.Grammar.{mark, Phrase, Phrases, IsTest, IsNothing, IsBlock, IsAsking, IsIf, IsIfElse, IsStmt, begins_else}

@@ -1,7 +1,7 @@
 -- Whole scripts, both ways.
 use Rattle.std.proofs.Common.{◌≡◌, ℕ, List, [], ◌∷◌, Option, Some, None, refl, sym, subst, ◌∙◌, arith}
 use Rattle.std.specs.Prelude.{Err}
-use Rattle.js_ast.specs.declared.tree.Stmt.{Stmt}
+use Rattle.small_ast.specs.declared.tree.Stmt.{Stmt}
 use Rattle.small_parser.specs.declared.token.Token.{Token}
 use Rattle.small_parser.specs.declared.refusal.ScriptRefusal.{ScriptRefusal}
 use Rattle.small_parser.specs.declared.refusal.ScriptRefusal.TheVariants as refusal
@@ -10,7 +10,7 @@ use Rattle.small_parser.specs.Grammar.{Phrases, IsStmt, IsScript, Spells, max_ne
 use Rattle.small_parser.specs.Answers.{Answers}
 use Rattle.small_parser.specs.Lexing.{Lexes}
 use Rattle.small_parser.specs.Reading.{Fails, many, turns, stmt_at, ended, script_of}
-use Rattle.js_ast.specs.declared.tree.Script.{Script}
+use Rattle.small_ast.specs.declared.tree.Script.{Script}
 use Rattle.small_parser.proofs.Steps.{some_is, bind_some}
 use Rattle.small_parser.proofs.Lexemes.{tokens_same}
 use Rattle.small_parser.proofs.Soundness.{many_sound, stmt_sound}

@@ -2,9 +2,9 @@
 use Rattle.std.proofs.Common.{◌≡◌, ℕ, zero, suc, true, List, [], ◌∷◌, ◌++◌, Option, Some, None, refl, sym, ap, subst, ◌∙◌, append_assoc, inl, inr}
 use Rattle.std.specs.Prelude.{◌⊎◌}
 use Rattle.std.proofs.lemmas.List.{append-nil}
-use Rattle.js_ast.specs.declared.tree.Stmt.{Stmt}
-use Rattle.js_ast.specs.declared.tree.Stmt.TheVariants as stmt
-use Rattle.js_ast.specs.declared.tree.Test.{Test}
+use Rattle.small_ast.specs.declared.tree.Stmt.{Stmt}
+use Rattle.small_ast.specs.declared.tree.Stmt.TheVariants as stmt
+use Rattle.small_ast.specs.declared.tree.Test.{Test}
 use Rattle.small_parser.specs.declared.token.Token.{Token}
 use Rattle.small_parser.specs.declared.token.TokenKind.{TokenKind}
 use Rattle.small_parser.specs.declared.token.TokenKind.TheVariants as k

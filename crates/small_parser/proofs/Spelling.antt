@@ -8,8 +8,8 @@ use Rattle.std.proofs.lemmas.Bool.{eqb-true, and_parts, and_from}
 use Rattle.std.proofs.lemmas.Bool.Decides.{nat_tests}
 use Rattle.std.proofs.lemmas.Slice.Eq.{bytes_eq-Decides}
 use Rattle.std.proofs.lemmas.List.{take-append-drop, take_at, drop_at}
-use Rattle.js_ast.specs.declared.tree.Comparison.{Comparison}
-use Rattle.js_ast.specs.declared.tree.Comparison.TheVariants as compare
+use Rattle.small_ast.specs.declared.tree.Comparison.{Comparison}
+use Rattle.small_ast.specs.declared.tree.Comparison.TheVariants as compare
 use Rattle.small_parser.specs.declared.token.TokenKind.{TokenKind}
 use Rattle.small_parser.specs.declared.token.TokenKind.TheVariants as k
 use Rattle.small_parser.specs.Tokens.{is_letter, is_digit, is_word_byte, comparison_text, spelling, IsKind, goes_on, IsWhole, max_safe}

@@ -1,9 +1,9 @@
 -- Small steps of reading, backwards.
 use Rattle.std.proofs.Common.{◌≡◌, ℕ, Bool, true, false, cond, List, [], ◌∷◌, Option, Some, None, refl, ap, subst, ◌∙◌, inl, inr}
 use Rattle.std.specs.Prelude.{◌⊎◌}
-use Rattle.js_ast.specs.declared.tree.Comparison.{Comparison}
-use Rattle.js_ast.specs.declared.tree.Side.{Side}
-use Rattle.js_ast.specs.declared.tree.Test.{Test}
+use Rattle.small_ast.specs.declared.tree.Comparison.{Comparison}
+use Rattle.small_ast.specs.declared.tree.Side.{Side}
+use Rattle.small_ast.specs.declared.tree.Test.{Test}
 use Rattle.small_parser.specs.declared.token.Token.{Token}
 use Rattle.small_parser.specs.declared.token.TokenKind.{TokenKind}
 use Rattle.small_parser.specs.declared.token.TokenKind.TheVariants as k

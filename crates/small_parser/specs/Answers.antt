@@ -1,6 +1,6 @@
 -- What is answered where bytes spell a script.
 use Rattle.std.specs.Prelude.{◌≡◌, Result, Ok, Err}
-use Rattle.js_ast.specs.declared.tree.Script.{Script}
+use Rattle.small_ast.specs.declared.tree.Script.{Script}
 use Rattle.small_parser.specs.declared.refusal.ScriptRefusal.{ScriptRefusal}
 use Rattle.small_parser.specs.declared.refusal.ScriptRefusal.TheVariants as refusal
 

@@ -1,12 +1,12 @@
 -- The grammar of scripts. A phrase says that tokens begin with the spelling of a tree, and what is left of them.
 use Rattle.std.specs.Prelude.{◌≡◌, ◌⊎◌, ℕ, zero, suc, List, [], ◌∷◌, Bool, true, false, Option, Some, None}
-use Rattle.js_ast.specs.declared.tree.Comparison.{Comparison}
-use Rattle.js_ast.specs.declared.tree.Side.{Side}
-use Rattle.js_ast.specs.declared.tree.Side.TheVariants as side
-use Rattle.js_ast.specs.declared.tree.Test.{Test}
-use Rattle.js_ast.specs.declared.tree.Stmt.{Stmt}
-use Rattle.js_ast.specs.declared.tree.Stmt.TheVariants as stmt
-use Rattle.js_ast.specs.declared.tree.Script.{Script}
+use Rattle.small_ast.specs.declared.tree.Comparison.{Comparison}
+use Rattle.small_ast.specs.declared.tree.Side.{Side}
+use Rattle.small_ast.specs.declared.tree.Side.TheVariants as side
+use Rattle.small_ast.specs.declared.tree.Test.{Test}
+use Rattle.small_ast.specs.declared.tree.Stmt.{Stmt}
+use Rattle.small_ast.specs.declared.tree.Stmt.TheVariants as stmt
+use Rattle.small_ast.specs.declared.tree.Script.{Script}
 use Rattle.small_parser.specs.declared.token.Token.{Token}
 use Rattle.small_parser.specs.declared.token.TokenKind.{TokenKind}
 use Rattle.small_parser.specs.declared.token.TokenKind.TheVariants as k

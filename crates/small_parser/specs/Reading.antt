@@ -1,10 +1,10 @@
 -- Reading statements from left to right.
 use Rattle.std.specs.Prelude.{◌≡◌, ℕ, zero, suc, List, [], ◌∷◌, ◌++◌, length, Bool, true, false, cond, Option, Some, None, option_and_then, Result, Ok, Err}
-use Rattle.js_ast.specs.declared.tree.Comparison.{Comparison}
-use Rattle.js_ast.specs.declared.tree.Side.{Side}
-use Rattle.js_ast.specs.declared.tree.Stmt.{Stmt}
-use Rattle.js_ast.specs.declared.tree.Stmt.TheVariants as stmt
-use Rattle.js_ast.specs.declared.tree.Test.{Test}
+use Rattle.small_ast.specs.declared.tree.Comparison.{Comparison}
+use Rattle.small_ast.specs.declared.tree.Side.{Side}
+use Rattle.small_ast.specs.declared.tree.Stmt.{Stmt}
+use Rattle.small_ast.specs.declared.tree.Stmt.TheVariants as stmt
+use Rattle.small_ast.specs.declared.tree.Test.{Test}
 use Rattle.small_parser.specs.declared.token.Token.{Token}
 use Rattle.small_parser.specs.declared.token.TokenKind.{TokenKind}
 use Rattle.small_parser.specs.declared.token.TokenKind.TheVariants as k

@@ -1,8 +1,8 @@
 -- Which bytes spell which tokens (ECMA-262, section 12, for the tokens of this language).
 use Rattle.std.specs.Prelude.{◌≡◌, ℕ, ◌+◌, ◌≤◌, ◌&&◌, ◌||◌, ◌==◌, nat_le, Bool, true, false, List, [], ◌∷◌, ◌++◌, length, codes, decimal}
 use Rattle.std.specs.List.{list_all}
-use Rattle.js_ast.specs.declared.tree.Comparison.{Comparison}
-use Rattle.js_ast.specs.declared.tree.Comparison.TheVariants as compare
+use Rattle.small_ast.specs.declared.tree.Comparison.{Comparison}
+use Rattle.small_ast.specs.declared.tree.Comparison.TheVariants as compare
 use Rattle.small_parser.specs.declared.token.Token.{Token}
 use Rattle.small_parser.specs.declared.token.TokenKind.{TokenKind}
 use Rattle.small_parser.specs.declared.token.TokenKind.TheVariants as k

@@ -1,14 +1,14 @@
 //! Scripts from bytes.
 
 ghost use Rattle.std.specs.Prelude.{◌≡◌, ◌<◌, ◌^◌, length, IfOk};
-ghost use Rattle.js_ast.specs.declared.tree.Script.{Script};
+ghost use Rattle.small_ast.specs.declared.tree.Script.{Script};
 ghost use Rattle.small_parser.specs.Grammar.{Spells};
 ghost use Rattle.small_parser.specs.Answers.{Answers};
 
 use crate::lexer::lex;
 use crate::refusal::ScriptRefusal;
 use crate::statements::script;
-use js_ast::Script;
+use small_ast::Script;
 use std::alloc::Global;
 
 /// The script that the bytes spell. A refusal names the least place at which reading can't go on.

@@ -1,14 +1,14 @@
 //! Statements from tokens. `end` is the byte offset of the place behind the last token.
 
 ghost use Rattle.std.specs.Prelude.{◌≡◌, ℕ, List, [], ◌∷◌, IfOk};
-ghost use Rattle.js_ast.specs.declared.tree.Side.TheVariants as side;
+ghost use Rattle.small_ast.specs.declared.tree.Side.TheVariants as side;
 ghost use Rattle.small_parser.specs.Grammar.{side_of, comparison_of, is_else};
 ghost use Rattle.small_parser.specs.declared.refusal.ScriptRefusal.TheVariants as refusal;
 ghost use Rattle.small_parser.specs.Reading.{Gives, place, side_at, comparison_at, test_at, closes, after_open_round, after_close_round, asked_at, many, turns, block_at, else_at, if_at, stmt_at, script_of};
 
 use crate::refusal::ScriptRefusal;
 use crate::token::{Token, TokenKind};
-use js_ast::{Comparison, Script, Side, Stmt, Test};
+use small_ast::{Comparison, Script, Side, Stmt, Test};
 use js_units::{NoMemory, Units};
 use sqlite_items::{Boxed, Items};
 use std::alloc::Global;

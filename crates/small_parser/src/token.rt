@@ -1,6 +1,6 @@
 //! Tokens of a script.
 
-use js_ast::Comparison;
+use small_ast::Comparison;
 
 /// What a token is.
 #[derive(Clone, Copy, Debug, PartialEq, Eq)]

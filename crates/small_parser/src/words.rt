@@ -6,7 +6,7 @@ ghost use Rattle.small_parser.specs.Tokens.{is_blank, is_letter, is_digit, is_wo
 ghost use Rattle.small_parser.specs.Lexing.{after_blank, word_length, number_from, leads_with_zero, number_of, letter_of, word_kind, word_at, single_mark, or_equal, two_equals, mark_at, token_at};
 
 use crate::token::TokenKind;
-use js_ast::Comparison;
+use small_ast::Comparison;
 
 /// The greatest number of which every whole number up to it is one of its own.
 const MAX_SAFE: u64 = 9_007_199_254_740_991;

@@ -1,5 +1,5 @@
 use Rattle.std.proofs.Common.{◌≡◌, length}
-use Rattle.js_ast.specs.Meaning.{input_of}
+use Rattle.small_ast.specs.Meaning.{input_of}
 use Rattle.js_machine.proofs.machine.input_of.Given as goal
 
 abbrev pub invariant-loop-inputs_left : goal.invariant-loop-inputs_left

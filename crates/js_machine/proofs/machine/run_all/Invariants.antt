@@ -1,6 +1,6 @@
 use Rattle.std.proofs.Common.{◌≡◌, ◌≤◌, length, drop}
-use Rattle.js_ast.specs.Running.{event_limit}
-use Rattle.js_ast.specs.Meaning.{stmts_run}
+use Rattle.small_ast.specs.Running.{event_limit}
+use Rattle.small_ast.specs.Meaning.{stmts_run}
 use Rattle.js_machine.specs.Runs.{environment_of, place_of, resumes}
 use Rattle.js_machine.proofs.machine.run_all.Given as goal
 

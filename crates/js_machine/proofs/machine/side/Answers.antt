@@ -1,6 +1,6 @@
 use Rattle.std.proofs.Common.{pos, rules}
-use Rattle.js_ast.specs.Running.{int}
-use Rattle.js_ast.specs.Meaning.{gives}
+use Rattle.small_ast.specs.Running.{int}
+use Rattle.small_ast.specs.Meaning.{gives}
 use Rattle.js_machine.proofs.machine.side.Goals as goal
 
 pub returns-in-Some-count_node-clause-meaning : goal.returns-in-Some-count_node-clause-meaning
