@@ -14,36 +14,104 @@ pub enum Expr {
     /// A name that is read
     Name(Identifier),
     /// A whole number from 0 to 2^53 - 1
-    Number { site: u32, value: u64 },
-    Text { site: u32, value: Units },
-    Null { site: u32 },
-    True { site: u32 },
-    False { site: u32 },
-    This { site: u32 },
+    Number {
+        site: u32,
+        value: u64,
+    },
+    Text {
+        site: u32,
+        value: Units,
+    },
+    Null {
+        site: u32,
+    },
+    True {
+        site: u32,
+    },
+    False {
+        site: u32,
+    },
+    This {
+        site: u32,
+    },
     /// `[` arguments `]`
-    Array { site: u32, items: Items<Boxed<Expr>> },
+    Array {
+        site: u32,
+        items: Items<Boxed<Expr>>,
+    },
     /// `{` members `}`
-    Object { site: u32, members: Items<Member<Boxed<Expr>>> },
+    Object {
+        site: u32,
+        members: Items<Member<Boxed<Expr>>>,
+    },
     /// `function`, with the name and its parameters (section 15.2)
-    Function { site: u32, name: Option<Identifier>, parameters: Items<Identifier>, body: Items<Stmt> },
+    FunctionExpression {
+        site: u32,
+        name: Option<Identifier>,
+        parameters: Items<Identifier>,
+        body: Items<Stmt>,
+    },
     /// Parameters, `=>` and an expression (section 15.3)
-    Arrow { site: u32, parameters: Items<Identifier>, value: Boxed<Expr> },
+    Arrow {
+        site: u32,
+        parameters: Items<Identifier>,
+        value: Boxed<Expr>,
+    },
     /// Parameters, `=>` and statements between braces
-    ArrowBlock { site: u32, parameters: Items<Identifier>, body: Items<Stmt> },
+    ArrowBlock {
+        site: u32,
+        parameters: Items<Identifier>,
+        body: Items<Stmt>,
+    },
     /// `new`, a name and arguments
-    New { site: u32, name: Identifier, arguments: Items<Boxed<Expr>> },
+    New {
+        site: u32,
+        name: Identifier,
+        arguments: Items<Boxed<Expr>>,
+    },
     /// A first part, and at least one suffix
-    Call { first: Boxed<Expr>, suffixes: Items<Suffix<Boxed<Expr>>> },
+    Call {
+        first: Boxed<Expr>,
+        suffixes: Items<Suffix<Boxed<Expr>>>,
+    },
     /// An operator before its operand
-    Unary { site: u32, op: UnaryOp, operand: Boxed<Expr> },
+    Unary {
+        site: u32,
+        op: UnaryOp,
+        operand: Boxed<Expr>,
+    },
     /// `++` or `--`, before its target or behind it
-    Step { start: u32, site: u32, op: StepOp, is_prefix: bool, target: Target<Boxed<Expr>> },
+    Step {
+        start: u32,
+        site: u32,
+        op: StepOp,
+        is_prefix: bool,
+        target: Target<Boxed<Expr>>,
+    },
     /// A chain of operators of one row, from left to right: at least one
-    Binary { first: Boxed<Expr>, links: Items<Link<BinaryOp, Boxed<Expr>>> },
+    Binary {
+        first: Boxed<Expr>,
+        links: Items<Link<BinaryOp, Boxed<Expr>>>,
+    },
     /// A chain of `&&`, of `||` or of `??`: at least one
-    Logical { first: Boxed<Expr>, links: Items<Link<LogicalOp, Boxed<Expr>>> },
+    Logical {
+        first: Boxed<Expr>,
+        links: Items<Link<LogicalOp, Boxed<Expr>>>,
+    },
     /// A test, `?` at the site, and two values
-    Conditional { start: u32, site: u32, test: Boxed<Expr>, consequent: Boxed<Expr>, alternate: Boxed<Expr> },
+    Conditional {
+        start: u32,
+        site: u32,
+        test: Boxed<Expr>,
+        consequent: Boxed<Expr>,
+        alternate: Boxed<Expr>,
+    },
     /// A target, a mark at the site, and a value; with an operator, the mark is that operator and `=`
-    Assign { start: u32, site: u32, op: Option<BinaryOp>, target: Target<Boxed<Expr>>, value: Boxed<Expr> },
+    Assign {
+        start: u32,
+        site: u32,
+        op: Option<BinaryOp>,
+        target: Target<Boxed<Expr>>,
+        value: Boxed<Expr>,
+    },
 }

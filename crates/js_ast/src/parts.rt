@@ -73,7 +73,10 @@ pub struct Declarator<E> {
 pub enum LoopHead<E> {
     Nothing,
     Value(E),
-    Declare { kind: DeclarationKind, declarators: Items<Declarator<E>> },
+    Declare {
+        kind: DeclarationKind,
+        declarators: Items<Declarator<E>>,
+    },
 }
 
 /// `catch`, with its name where that stands (ECMA-262, section 14.15).

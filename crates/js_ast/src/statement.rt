@@ -10,28 +10,84 @@ use sqlite_items::{Boxed, Items};
 #[derive(Drop)]
 pub enum Stmt {
     /// `{` statements `}`
-    Block { site: u32, body: Items<Stmt> },
+    Block {
+        site: u32,
+        body: Items<Stmt>,
+    },
     /// `;`
-    Nothing { site: u32 },
-    Declare { site: u32, kind: DeclarationKind, declarators: Items<Declarator<Boxed<Expr>>> },
+    Nothing {
+        site: u32,
+    },
+    Declare {
+        site: u32,
+        kind: DeclarationKind,
+        declarators: Items<Declarator<Boxed<Expr>>>,
+    },
     /// A function declaration (section 15.2)
-    Function { site: u32, name: Identifier, parameters: Items<Identifier>, body: Items<Stmt> },
+    Function {
+        site: u32,
+        name: Identifier,
+        parameters: Items<Identifier>,
+        body: Items<Stmt>,
+    },
     /// An expression; its first token is the statement's
-    Express { site: u32, value: Boxed<Expr> },
+    Express {
+        site: u32,
+        value: Boxed<Expr>,
+    },
     /// A chain of `if`s, each but the first behind an `else`, and what stands behind a last `else`
-    If { arms: Items<Arm>, alternate: Option<Boxed<Stmt>> },
-    While { site: u32, test: Boxed<Expr>, body: Boxed<Stmt> },
+    If {
+        arms: Items<Arm>,
+        alternate: Option<Boxed<Stmt>>,
+    },
+    While {
+        site: u32,
+        test: Boxed<Expr>,
+        body: Boxed<Stmt>,
+    },
     /// `do`; `test_site` is that of its `while`
-    Do { site: u32, body: Boxed<Stmt>, test_site: u32, test: Boxed<Expr> },
-    For { site: u32, head: LoopHead<Boxed<Expr>>, test: Option<Boxed<Expr>>, update: Option<Boxed<Expr>>, body: Boxed<Stmt> },
+    Do {
+        site: u32,
+        body: Boxed<Stmt>,
+        test_site: u32,
+        test: Boxed<Expr>,
+    },
+    For {
+        site: u32,
+        head: LoopHead<Boxed<Expr>>,
+        test: Option<Boxed<Expr>>,
+        update: Option<Boxed<Expr>>,
+        body: Boxed<Stmt>,
+    },
     /// `for` `(` `let` or `const`, a name `of` a value `)`
-    ForOf { site: u32, kind: DeclarationKind, name: Identifier, items: Boxed<Expr>, body: Boxed<Stmt> },
-    Break { site: u32 },
-    Continue { site: u32 },
-    Return { site: u32, value: Option<Boxed<Expr>> },
-    Throw { site: u32, value: Boxed<Expr> },
+    ForOf {
+        site: u32,
+        kind: DeclarationKind,
+        name: Identifier,
+        items: Boxed<Expr>,
+        body: Boxed<Stmt>,
+    },
+    Break {
+        site: u32,
+    },
+    Continue {
+        site: u32,
+    },
+    Return {
+        site: u32,
+        value: Option<Boxed<Expr>>,
+    },
+    Throw {
+        site: u32,
+        value: Boxed<Expr>,
+    },
     /// `try`, with `catch`, `finally` or both
-    Try { site: u32, body: Items<Stmt>, catch: Option<Catch<Items<Stmt>>>, finally: Option<Items<Stmt>> },
+    Try {
+        site: u32,
+        body: Items<Stmt>,
+        catch: Option<Catch<Items<Stmt>>>,
+        finally: Option<Items<Stmt>>,
+    },
 }
 
 /// `if`, its test and what is done where that holds, at the site of the word (section 14.6).

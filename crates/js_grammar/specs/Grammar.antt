@@ -201,7 +201,7 @@ mutual
     primary_text : (d : ℕ) (c : Context) (ts : List Token) (text : List ℕ) (site : ℕ) (rest : List Token) → Begins ts (k.Text text) site rest → IsPrimary P d c ts (expr.Text site text) rest
     primary_array : (d : ℕ) (c : Context) (ts : List Token) (site : ℕ) (inside : List Token) (es : List Expr) (rest : List Token) → Begins ts k.OpenSquare site inside → IsArguments P k.CloseSquare d c inside es rest → IsPrimary P d c ts (expr.Array site es) rest
     primary_object : (d : ℕ) (c : Context) (ts : List Token) (site : ℕ) (inside : List Token) (ms : List (Member Expr)) (rest : List Token) → Begins ts k.OpenBrace site inside → IsMembers P d c inside ms rest → IsPrimary P d c ts (expr.Object site ms) rest
-    primary_function : (d : ℕ) (c : Context) (ts : List Token) (site : ℕ) (from : List Token) (name : Option Identifier) (at : List Token) (ns : List Identifier) (opens : List Token) (body : List Stmt) (rest : List Token) → IsWord ts word.Function site from → IsOptionalName from name at → IsParameters at ns opens → IsBody P d in_body opens body rest → IsPrimary P d c ts (expr.Function site name ns body) rest
+    primary_function : (d : ℕ) (c : Context) (ts : List Token) (site : ℕ) (from : List Token) (name : Option Identifier) (at : List Token) (ns : List Identifier) (opens : List Token) (body : List Stmt) (rest : List Token) → IsWord ts word.Function site from → IsOptionalName from name at → IsParameters at ns opens → IsBody P d in_body opens body rest → IsPrimary P d c ts (expr.FunctionExpression site name ns body) rest
     primary_round : (d : ℕ) (c : Context) (ts : List Token) (opens : ℕ) (inside : List Token) (e : Expr) (t : Tail) (close : List Token) (at : ℕ) (rest : List Token) → Begins ts k.OpenRound opens inside → IsAssign P d c inside e t close → Begins close k.CloseRound at rest → IsPrimary P d c ts e rest
 
   -- ---- statements

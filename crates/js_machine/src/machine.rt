@@ -5,9 +5,9 @@ ghost use Rattle.small_ast.specs.Running.{int, Place, Outcome, done, count, bran
 ghost use Rattle.small_ast.specs.Meaning.{compare, input_number, input_of, side_run, test_run, stmt_run, stmts_run, path_of};
 ghost use Rattle.js_machine.specs.Runs.{environment_of, place_of, resumes, reaches, number_answer, truth_answer, stmt_answer, counts, goes_on};
 
-use small_ast::{Comparison, Script, Side, Stmt, Test};
 use js_units::{NoMemory, Units};
 use path_core::{Bounds, Budget, Declared, End, Event, Input, InputValue, Path, PickKind, Why};
+use small_ast::{Comparison, Script, Side, Stmt, Test};
 use sqlite_items::Items;
 use std::alloc::Global;
 

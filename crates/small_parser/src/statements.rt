@@ -8,8 +8,8 @@ ghost use Rattle.small_parser.specs.Reading.{Gives, place, side_at, comparison_a
 
 use crate::refusal::ScriptRefusal;
 use crate::token::{Token, TokenKind};
-use small_ast::{Comparison, Script, Side, Stmt, Test};
 use js_units::{NoMemory, Units};
+use small_ast::{Comparison, Script, Side, Stmt, Test};
 use sqlite_items::{Boxed, Items};
 use std::alloc::Global;
 
