@@ -1,0 +1,5 @@
+pub mod FlagLists
+pub mod Leading
+pub mod Members
+pub mod Steps
+pub mod Wholes

@@ -1,0 +1,9 @@
+pub mod Characters
+pub mod Escapes
+pub mod Quantifiers
+pub mod Pieces
+pub mod Classes
+pub mod Grammar
+pub mod Flags
+pub mod Reading
+pub mod Answers

@@ -1,0 +1,22 @@
+//! The grammar of patterns (regular expressions): which texts spell a pattern, and its tree.
+#![tactic(auto)]
+
+mod characters;
+mod classes;
+mod escapes;
+mod faults;
+mod flags;
+mod kinds;
+mod parser;
+mod pieces;
+mod pile;
+mod quantifiers;
+mod reader;
+mod refusal;
+mod trees;
+
+pub use parser::parse_pattern;
+pub use refusal::PatternRefusal;
+
+#[cfg(test)]
+mod tests;

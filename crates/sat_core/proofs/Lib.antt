@@ -1,0 +1,12 @@
+pub mod Known
+pub mod Replay
+pub mod Contained
+pub mod Growing
+pub mod Setting
+pub mod Units
+pub mod Room
+pub mod Scans
+pub mod Learnt
+pub mod Steps
+pub mod Models
+pub mod Counting

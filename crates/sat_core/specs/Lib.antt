@@ -1,0 +1,6 @@
+pub mod Values
+pub mod Trails
+pub mod Kept
+pub mod Rest
+pub mod Learning
+pub mod Answers
