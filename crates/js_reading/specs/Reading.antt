@@ -1,5 +1,5 @@
 -- This project's own: scripts read token by token. What each step answers depends on the tokens so far alone.
-use Rattle.std.specs.Prelude.{◌≡◌, ℕ, suc, nat_lt, Bool, true, false, cond, List, [], ◌∷◌, ◌++◌, ◌+◌, ◌==◌, Option, Some, None, Result, Ok, Err}
+use Rattle.std.specs.Prelude.{◌≡◌, ℕ, suc, nat_lt, Bool, true, false, cond, List, [], ◌∷◌, ◌++◌, ◌+◌, ◌≤◌, ◌==◌, Option, Some, None, Result, Ok, Err}
 use Rattle.js_ast.specs.declared.expression.Expr.{Expr}
 use Rattle.js_ast.specs.declared.statement.Stmt.{Stmt}
 use Rattle.js_ast.specs.declared.statement.Stmt.TheVariants as stmt
@@ -224,3 +224,16 @@ goes f left None = Err left
 abbrev pub reads : List Token → Parser → Result (List Stmt) (List Token)
 reads [] p = end_of (ends p)
 reads (t ∷ ts) p = goes (reads ts) (t ∷ ts) (step p t)
+
+-- The tokens lead from the state to the end of that script, and the nesting of each of them passes.
+abbrev pub IsRead : (ℕ → Type 0) → List Token → Parser → List Stmt → Type 0
+IsRead P [] p body = ends p ≡ Some body
+IsRead P (t ∷ ts) p body = (q : Parser) × (step p t ≡ Some q) × P (nesting q) × IsRead P ts q body
+
+-- from the start on, whatever the nesting
+abbrev pub IsReadWhole : List Token → List Stmt → Type 0
+IsReadWhole ts body = IsRead (λ n. Unit {0}) ts start body
+
+-- from the start on, and no token nests deeper than 200
+abbrev pub IsReadShallow : List Token → List Stmt → Type 0
+IsReadShallow ts body = IsRead (λ n. n ≤ 200) ts start body
