@@ -1,0 +1,13 @@
+pub mod Steps
+pub mod Settle
+pub mod Motives
+pub mod Primaries
+pub mod Chains
+pub mod Assigns
+pub mod Ends
+pub mod Statements
+pub mod Declarations
+pub mod Loops
+pub mod Tries
+pub mod Complete
+pub mod Certain

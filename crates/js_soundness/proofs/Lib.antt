@@ -1,0 +1,11 @@
+pub mod Left
+pub mod Climb
+pub mod BackOperators
+pub mod BackOperands
+pub mod BackStatements
+pub mod BackOpenings
+pub mod BackEnds
+pub mod Sound
+pub mod Fit
+pub mod Enough
+pub mod Places
