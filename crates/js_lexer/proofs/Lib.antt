@@ -14,3 +14,5 @@ pub mod NumberBests
 pub mod Ends
 pub mod TokenValues
 pub mod Onlys
+pub mod Longest
+pub mod OtherGoals

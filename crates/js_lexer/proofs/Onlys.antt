@@ -46,13 +46,13 @@ trivia_same at_start _ _ b rest other (trivia_more _ here later units mid _ piec
 place_same : (text : List ℕ) (a b : ℕ) → a ≤ length text → b ≤ length text → drop a text ≡ drop b text → a ≡ b
 place_same text a b la lb e = omega (arith, ap length e, length-drop a text, length-drop b text)
 
-gap_same : (text : List ℕ) (at a b : ℕ) (line other : Bool) → IsGap text at a line → IsGap text at b other → (b ≡ a) × (other ≡ line)
+pub gap_same : (text : List ℕ) (at a b : ℕ) (line other : Bool) → IsGap text at a line → IsGap text at b other → (b ≡ a) × (other ≡ line)
 gap_same text at a b line other g h =
     let s = trivia_same (at == 0) (drop at text) line other (drop a text) (drop b text) g.trivia h.trivia in
     (place_same text b a h.within g.within s.1, s.0)
 
 -- the best lexeme is the only longest one
-best_only : (goal : Goal) (s : Bool) (x other : Lexeme) (units rest behind : List ℕ) → IsBest goal s x units rest → IsLongest goal s other units behind → (other ≡ x) × (behind ≡ rest)
+pub best_only : (goal : Goal) (s : Bool) (x other : Lexeme) (units rest behind : List ℕ) → IsBest goal s x units rest → IsLongest goal s other units behind → (other ≡ x) × (behind ≡ rest)
 best_only goal s x other units rest behind b l = elim (b.others other behind l.spelt) [ inl less ↦ absurd (omega (arith, l.longest x rest b.spelt)) | inr same ↦ same ]
 
 token_same : (t u : Token) → u.kind ≡ t.kind → u.start ≡ t.start → u.end ≡ t.end → u.line_before ≡ t.line_before → u ≡ t

@@ -86,7 +86,7 @@ stands_pattern text t (Err error) copied body e h same q = tt
 
 -- ---- one value at most
 
-text_same : (units one other rest behind : List ℕ) → IsText units one rest → IsText units other behind → one ≡ other
+pub text_same : (units one other rest behind : List ℕ) → IsText units one rest → IsText units other behind → one ≡ other
 text_same units one other rest behind h f =
     let q = text_quoted h.quote h.inside other behind (subst (λ (w : List ℕ). IsText w other behind) h.units_are f) in
     sym (quoted_same h.quote h.inside one rest other behind h.quoted q).value_is

@@ -12,5 +12,6 @@ pub mod Patterns
 pub mod Bodies
 pub mod Lexemes
 pub mod Tokens
+pub mod Slash
 pub mod Values
 pub mod Reading

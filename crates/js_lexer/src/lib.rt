@@ -3,6 +3,7 @@
 
 mod classes;
 mod escapes;
+mod laws;
 mod lexer;
 mod marks;
 mod names;
@@ -15,6 +16,7 @@ mod token;
 mod trivia;
 mod values;
 
+pub use laws::{one_goal, one_token, one_value};
 pub use lexer::next_token;
 pub use token::{Goal, LexRefusal, Token, TokenKind};
 pub use values::{flags_of, number_of, text_of};
