@@ -1,0 +1,5 @@
+mod Marks
+mod Offsets
+mod Depths
+mod Rooms
+mod Turns

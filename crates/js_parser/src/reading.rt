@@ -1,0 +1,159 @@
+//! A text, token by token.
+
+ghost use Rattle.std.specs.Prelude.{◌≡◌, ◌≤◌, ◌<◌, ◌^◌, length, Some};
+ghost use Rattle.js_units.specs.Utf8.{utf8_size};
+ghost use Rattle.js_expressions.specs.Answers.{Makes};
+ghost use Rattle.js_reading.specs.Reading.{start};
+ghost use Rattle.js_parser.specs.Places.{byte_at};
+ghost use Rattle.js_parser.specs.Outcomes.{taken, taken_by, refusal_of, over};
+ghost use Rattle.js_parser.specs.Answers.{Answers, Advances, Reads};
+
+use crate::finding::{Found, next_found};
+use crate::nesting::is_too_deep;
+use crate::refusal::ScriptRefusal;
+use crate::tokens::goal_of;
+use js_ast::Stmt;
+use js_expressions::{Stop, opens_list};
+use js_grammar::Token;
+use js_reading::{Braces, Parser, Pile};
+use js_statements::{ends, step};
+use js_units::Units;
+use sqlite_items::Items;
+use std::alloc::Global;
+
+/// What has been read of a text.
+#[derive(Drop)]
+pub struct Progress {
+    pub parser: Parser,
+    /// The place behind it, in code units.
+    pub end: usize,
+    /// The same place in bytes.
+    pub bytes: usize,
+}
+
+/// What one token more gives.
+#[derive(Drop)]
+pub enum Turn {
+    More(Progress),
+    /// The script is over.
+    Over(Items<Stmt>),
+}
+
+/// The parser in front of a script.
+fn begin(alloc: Global) -> Result<Parser, Stop>
+    ensures { Makes result start }
+{
+    opens_list(alloc, Braces::Script, Pile::new(alloc))
+}
+
+/// A parser that isn't needed any more.
+fn discard(parser: Parser) {}
+
+/// The refusal at a token that was taken.
+fn refusal_of(is_wide: bool, at: usize, parser: &Parser) -> Option<ScriptRefusal>
+    ensures { result ≡ refusal_of is_wide at parser.now }
+{
+    if is_wide {
+        return Some(ScriptRefusal::WideNumber { at });
+    }
+    if is_too_deep(parser) {
+        return Some(ScriptRefusal::TooDeep { at });
+    }
+    None
+}
+
+fn unless_refused(is_wide: bool, at: usize, parser: Parser) -> Result<Parser, ScriptRefusal>
+    ensures { Answers result (taken_by is_wide at (Some parser)) }
+{
+    match refusal_of(is_wide, at, &parser) {
+        None => Ok(parser),
+        Some(refusal) => {
+            discard(parser);
+            Err(refusal)
+        }
+    }
+}
+
+/// The parser behind one token more, or the refusal that comes first at it.
+fn taken(
+    alloc: Global,
+    parser: Parser,
+    is_wide: bool,
+    token: Token,
+) -> Result<Parser, ScriptRefusal>
+    ensures { Answers result (taken is_wide parser token) }
+{
+    let at = token.start as usize;
+    match step(alloc, parser, token) {
+        Ok(parser) => unless_refused(is_wide, at, parser),
+        Err(Stop::Syntax) => Err(ScriptRefusal::Syntax { at }),
+        Err(Stop::NoMemory) => Err(ScriptRefusal::NoMemory),
+    }
+}
+
+/// The script, if it may end here.
+fn over(alloc: Global, parser: Parser, at: usize) -> Result<Items<Stmt>, ScriptRefusal>
+    ensures { Answers result (over parser at) }
+{
+    match ends(alloc, parser) {
+        Ok(body) => Ok(body),
+        Err(Stop::Syntax) => Err(ScriptRefusal::Syntax { at }),
+        Err(Stop::NoMemory) => Err(ScriptRefusal::NoMemory),
+    }
+}
+
+/// One token more.
+fn advance(alloc: Global, text: &Units, progress: Progress) -> Result<Turn, ScriptRefusal>
+    requires within { progress.end ≤ length text.now }
+    requires known { progress.bytes ≡ byte_at text.now progress.end }
+    requires few { utf8_size text.now < 2 ^ 31 }
+    ensures { Advances text.now progress.end progress.parser result }
+{
+    let Progress { parser, end, bytes } = progress;
+    match next_found(alloc, text, goal_of(&parser.mode), end, bytes) {
+        Ok(
+            Found::Token {
+                token,
+                is_wide,
+                end,
+                bytes,
+            },
+        ) => {
+            match taken(alloc, parser, is_wide, token) {
+                Ok(parser) => Ok(Turn::More(Progress { parser, end, bytes })),
+                Err(refusal) => Err(refusal),
+            }
+        }
+        Ok(Found::Over { at }) => match over(alloc, parser, at) {
+            Ok(body) => Ok(Turn::Over(body)),
+            Err(refusal) => Err(refusal),
+        },
+        Err(refusal) => {
+            discard(parser);
+            Err(refusal)
+        }
+    }
+}
+
+/// The statements that the text's tokens spell.
+pub fn read(alloc: Global, text: &Units) -> Result<Items<Stmt>, ScriptRefusal>
+    requires { utf8_size text.now < 2 ^ 31 }
+    ensures { Reads text.now 0 start result }
+{
+    let parser = match begin(alloc) {
+        Ok(parser) => parser,
+        Err(_) => return Err(ScriptRefusal::NoMemory),
+    };
+    let mut progress = Progress {
+        parser,
+        end: 0,
+        bytes: 0,
+    };
+    'tokens: loop {
+        match advance(alloc, text, progress) {
+            Ok(Turn::More(next)) => progress = next,
+            Ok(Turn::Over(body)) => return Ok(body),
+            Err(refusal) => return Err(refusal),
+        }
+    }
+}
