@@ -1,9 +1,9 @@
 //! Laws of the definitions in `specs/`: each is the contract of a function that does nothing.
 
-ghost use Rattle.std.specs.Prelude.{◌≡◌, ◌≤◌, ◌⊎◌, ℕ, List, true, false, drop};
+ghost use Rattle.std.specs.Prelude.{◌≡◌, ◌≤◌, ◌⊎◌, ℕ, List, true, false, drop, Result, Err};
 ghost use Rattle.js_lexer.specs.Numbers.{IsNumeral, max_safe};
 ghost use Rattle.js_lexer.specs.Texts.{IsText};
-ghost use Rattle.js_lexer.specs.Tokens.{IsNext, IsNone};
+ghost use Rattle.js_lexer.specs.Tokens.{IsNext, IsNone, Next};
 ghost use Rattle.js_lexer.specs.Slash.{begins_slash};
 ghost use Rattle.js_lexer.specs.declared.token.Goal.{Goal};
 ghost use Rattle.js_lexer.specs.declared.token.Goal.TheVariants as goals;
@@ -13,7 +13,8 @@ ghost use Rattle.js_lexer.specs.declared.token.LexRefusal.{LexRefusal};
 
 /// At most one token is next at a place, at one goal.
 pub fn one_token()
-    ensures { (text : List ℕ) (at : ℕ) (goal : Goal) (a b : Token) → IsNext text at goal a → IsNext text at goal b → a ≡ b }
+    ensures token { (text : List ℕ) (at : ℕ) (goal : Goal) (a b : Token) → IsNext text at goal a → IsNext text at goal b → a ≡ b }
+    ensures none { (text : List ℕ) (at : ℕ) (goal : Goal) (r : LexRefusal) (other : Result Token LexRefusal) → IsNone text at goal r → Next text at goal other → other ≡ Err r }
 {}
 
 /// A number that isn't wide has one value, and so has a text.
