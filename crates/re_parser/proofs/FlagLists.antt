@@ -1,5 +1,5 @@
 -- Flags, unit by unit.
-use Rattle.std.proofs.Common.{◌≡◌, ℕ, ◌+◌, suc, ◌<◌, ◌≤◌, List, [], ◌∷◌, ◌++◌, length, Option, Some, None, refl, sym, ap, subst, ◌∙◌, append_assoc, arith}
+use Rattle.std.proofs.Common.{◌≡◌, ℕ, suc, List, [], ◌∷◌, ◌++◌, length, Some, None, refl, sym, ap, subst, ◌∙◌, append_assoc, arith}
 use Rattle.std.specs.Prelude.{◌-◌, take}
 use Rattle.std.proofs.lemmas.List.{length-append, append-nil}
 use Rattle.re_ast.specs.declared.patterns.Flags.{Flags}

@@ -1,20 +1,14 @@
 -- What leads on from a reader: one term more, a `|`, a `(` and a `)`.
-use Rattle.std.proofs.Common.{◌≡◌, ℕ, ◌+◌, suc, ◌<◌, ◌≤◌, Bool, true, false, List, [], ◌∷◌, ◌++◌, length, Option, Some, None, refl, sym, ap, subst, ◌∙◌, append_assoc, arith, inl, inr}
+use Rattle.std.proofs.Common.{◌≡◌, ℕ, Bool, true, false, List, [], ◌∷◌, ◌++◌, Option, Some, refl, sym, subst, ◌∙◌, append_assoc, inl, inr}
 use Rattle.std.specs.Prelude.{◌⊎◌}
 use Rattle.std.proofs.lemmas.List.{append-nil}
 use Rattle.re_ast.specs.declared.patterns.Node.{Node}
-use Rattle.re_ast.specs.declared.patterns.Node.TheVariants as node
-use Rattle.re_parser.specs.Classes.{IsMembers}
 use Rattle.re_parser.specs.Pieces.{piece_at}
-use Rattle.re_parser.specs.Grammar.{Begins, seq_of, alt_of, assertion_node, atom_node, is_bound, is_within, quantified, closed, begun, IsDisjunction, disjunction_last, disjunction_more, IsAlternative, alternative_none, alternative_more, IsTerm, term_assertion, term_atom, term_class, term_group}
-use Rattle.re_parser.specs.Reading.{Goes, Follows, Ends, Left, Whole, closed_in}
-use Rattle.re_parser.specs.declared.kinds.GroupKind.{GroupKind}
-use Rattle.re_parser.specs.declared.kinds.Atom.{Atom}
-use Rattle.re_parser.specs.declared.kinds.Assertion.{Assertion}
+use Rattle.re_parser.specs.Grammar.{Begins, seq_of, IsAlternative, alternative_none, alternative_more, IsTerm}
+use Rattle.re_parser.specs.Reading.{Goes, Follows, Ends, Whole}
 use Rattle.re_parser.specs.declared.kinds.Piece.{Piece}
 use Rattle.re_parser.specs.declared.kinds.Piece.TheVariants as piece
 use Rattle.re_parser.specs.declared.reader.Frame.{Frame}
-use Rattle.re_parser.specs.declared.reader.Reader.{Reader}
 use Rattle.re_parser.proofs.Members.{parts_same}
 
 -- where a disjunction ends

@@ -1,5 +1,5 @@
 -- Classes: what is read is what is spelt, and in one way.
-use Rattle.std.proofs.Common.{◌≡◌, ℕ, suc, ◌<◌, ◌≤◌, Bool, true, false, cond, List, [], ◌∷◌, ◌++◌, length, Option, Some, None, refl, sym, ap, subst, ◌∙◌, append_assoc, arith}
+use Rattle.std.proofs.Common.{◌≡◌, ℕ, Bool, true, false, cond, List, [], ◌∷◌, ◌++◌, Some, None, refl, sym, ap, subst, ◌∙◌, append_assoc}
 use Rattle.std.specs.Prelude.{◌==◌}
 use Rattle.std.proofs.lemmas.List.{append-nil}
 use Rattle.std.proofs.lemmas.Bool.{eqb-true}
@@ -65,7 +65,7 @@ grows_end units ranges left rest g e = subst (λ (q : List (ℕ × ℕ)). IsMemb
 pub grows_none : (units : List ℕ) (ranges : List (ℕ × ℕ)) (left : List ℕ) → Grows units ranges left → item_at left ≡ None → ((rest : List ℕ) → left ≡ 93 ∷ rest → ⊥) → NoMembers units
 grows_none units ranges left g e never = λ all rest h. let b = g.back all rest h in never rest (members_stop left b.0 rest b.1 e).1
 
-close_is : (left rest : List ℕ) → close_at left ≡ Some rest → left ≡ 93 ∷ rest
+pub close_is : (left rest : List ℕ) → close_at left ≡ Some rest → left ≡ 93 ∷ rest
 close_is [] rest e = absurd cc
 close_is (u ∷ us) rest e = by (u == 93) refl e
   where
@@ -73,7 +73,7 @@ close_is (u ∷ us) rest e = by (u == 93) refl e
     by true a f = let is = eqb-true u 93 a in let same : us ≡ rest = cc in cc
     by false a f = absurd cc
 
-close_isnt : (left rest : List ℕ) → close_at left ≡ None → left ≡ 93 ∷ rest → ⊥
+pub close_isnt : (left rest : List ℕ) → close_at left ≡ None → left ≡ 93 ∷ rest → ⊥
 close_isnt left rest e f = let some = ap close_at f in absurd cc
 
 pub grows_closed : (units : List ℕ) (ranges : List (ℕ × ℕ)) (left rest : List ℕ) → Grows units ranges left → close_at left ≡ Some rest → IsMembers units ranges rest

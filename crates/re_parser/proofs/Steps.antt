@@ -1,15 +1,14 @@
 -- A step of a reader: the same wholes are left behind it, or none was left before.
-use Rattle.std.proofs.Common.{◌≡◌, ℕ, ◌+◌, suc, ◌<◌, ◌≤◌, Bool, true, false, cond, List, [], ◌∷◌, ◌++◌, length, Option, Some, None, refl, sym, ap, subst, ◌∙◌, append_assoc, arith, inl, inr, nat_lt, ltb-true, ltb-false, lt-ltb}
-use Rattle.std.specs.Prelude.{◌⊎◌, ◌↔◌, ◌&&◌, Result, Ok, Err, nat_le}
-use Rattle.std.specs.List.{list_all}
+use Rattle.std.proofs.Common.{◌≡◌, ℕ, ◌+◌, suc, ◌<◌, Bool, true, false, List, [], ◌∷◌, ◌++◌, length, Option, Some, None, refl, sym, ap, subst, ◌∙◌, append_assoc, inl, inr}
+use Rattle.std.specs.Prelude.{◌&&◌}
 use Rattle.std.proofs.lemmas.List.{append-nil}
 use Rattle.std.proofs.lemmas.Bool.{and_parts}
 use Rattle.re_ast.specs.declared.patterns.Node.{Node}
 use Rattle.re_ast.specs.declared.patterns.Node.TheVariants as node
-use Rattle.re_parser.specs.Classes.{IsMembers, NoMembers, Lacks}
+use Rattle.re_parser.specs.Classes.{IsMembers, NoMembers}
 use Rattle.re_parser.specs.Pieces.{piece_at}
-use Rattle.re_parser.specs.Grammar.{Begins, seq_of, alt_of, assertion_node, atom_node, is_bound, is_within, quantified, closed, begun, IsDisjunction, disjunction_last, disjunction_more, IsAlternative, alternative_none, alternative_more, IsTerm, term_assertion, term_atom, term_class, term_group}
-use Rattle.re_parser.specs.Reading.{Spot, Goes, Follows, Ends, Left, Whole, Same, Stuck, Steps, Turns, ClassTurns, IsClassTurn, Gives, turned, closed_in, closed_by, Fails, outer, with_term, with_bar, with_back, with_atom, with_open, opened_by, opened_at, with_close, with_class, are_bound}
+use Rattle.re_parser.specs.Grammar.{Begins, seq_of, alt_of, assertion_node, atom_node, is_bound, is_within, quantified, closed, begun, IsDisjunction, disjunction_last, disjunction_more, alternative_none, IsTerm, term_assertion, term_atom, term_class, term_group}
+use Rattle.re_parser.specs.Reading.{Goes, Follows, Ends, Left, Whole, Same, Stuck, closed_in, outer, with_term, with_bar, with_back, with_atom, with_class, are_bound}
 use Rattle.re_parser.specs.declared.kinds.GroupKind.{GroupKind}
 use Rattle.re_parser.specs.declared.kinds.Atom.{Atom}
 use Rattle.re_parser.specs.declared.kinds.Atom.TheVariants as atom
@@ -19,8 +18,6 @@ use Rattle.re_parser.specs.declared.kinds.Piece.TheVariants as piece
 use Rattle.re_parser.specs.declared.reader.Frame.{Frame}
 use Rattle.re_parser.specs.declared.reader.Reader.{Reader}
 use Rattle.re_parser.specs.declared.reader.Backreference.{Backreference}
-use Rattle.re_parser.specs.declared.refusal.Fault.{Fault}
-use Rattle.re_parser.specs.declared.refusal.Fault.TheVariants as fault
 use Rattle.re_parser.proofs.Leading.{End, same_piece, goes_back, Term, goes_on, stops, ends_close, follows_stops}
 use Rattle.re_parser.proofs.Members.{members_same}
 
@@ -60,7 +57,7 @@ atom_in total _ _ _ _ _ _ (term_atom depth before units a mid b h) c more d P p 
 atom_in total _ _ _ _ _ _ (term_class depth before units negated inside ranges mid b h) c more d P p = absurd (let e = (same_piece units (piece.Class negated) (piece.Atom c) inside more b d).0 in cc)
 atom_in total _ _ _ _ _ _ (term_group depth before units kind inside within nodes after close mid b lt g h i) c more d P p = absurd (let e = (same_piece units (piece.Open kind) (piece.Atom c) inside more b d).0 in cc)
 
-abbrev class_node : Bool → List (ℕ × ℕ) → Node
+abbrev pub class_node : Bool → List (ℕ × ℕ) → Node
 class_node negated ranges = node.Class (record { ranges = ranges; negated = negated })
 
 class_in : (total : Option ℕ) (depth before : ℕ) (units : List ℕ) (n : Node) (mid : ℕ) (next : List ℕ) → IsTerm total depth before units n mid next → (negated : Bool) (inside : List ℕ) → Begins units (piece.Class negated) inside → (P : Node → ℕ → List ℕ → Type 0) → P n mid next
@@ -126,6 +123,12 @@ goes_stop w depth fs done terms before units p rest g b s =
       | inr f ↦ f
     ]
 
+-- a backreference in front is within the limit
+pub back_bound : (w : Whole) (r : Reader) (units : List ℕ) (n : ℕ) (rest : List ℕ) → Begins units (piece.Atom (atom.Back n)) rest → Left w r units → is_within w.0 n ≡ true
+back_bound w r units n rest b l =
+    let t = goes_term w (length r.frames) r.frames r.alternatives r.terms r.groups units (piece.Atom (atom.Back n)) rest l.1 b refl in
+    (atom_in w.0 (length r.frames) r.groups units t.term t.mid t.next t.is (atom.Back n) rest b (λ n mid next. Unit {0}) tt).0
+
 -- nothing more of an alternative
 pub goes_none : (total : Option ℕ) (depth : ℕ) (C : End) (done terms : List Node) (before : ℕ) (units : List ℕ) → Follows total depth C done (seq_of terms) before units → Goes total depth C done terms before units
 goes_none total depth C done terms before units f = record {
@@ -161,7 +164,7 @@ disjunction_goes = resume
 
 -- ---- each piece
 
-bar_same : (r : Reader) (units rest : List ℕ) → Begins units piece.Bar rest → Same r units (with_bar r) rest
+pub bar_same : (r : Reader) (units rest : List ℕ) → Begins units piece.Bar rest → Same r units (with_bar r) rest
 bar_same r units rest b w = (forth, back)
   where
     forth : Left w r units → Left w (with_bar r) rest
@@ -184,7 +187,7 @@ bar_same r units rest b w = (forth, back)
               (inr (rest, d.nodes, d.after, d.rest, b, d.disjunction, subst (λ (x : List Node). Ends w r.frames x d.after d.rest) (append_assoc r.alternatives (seq_of r.terms ∷ []) d.nodes) d.ends)),
         )
 
-assertion_same : (r : Reader) (units rest : List ℕ) (a : Assertion) → Begins units (piece.Assertion a) rest → Same r units (with_term r (assertion_node a, rest)).0 rest
+pub assertion_same : (r : Reader) (units rest : List ℕ) (a : Assertion) → Begins units (piece.Assertion a) rest → Same r units (with_term r (assertion_node a, rest)).0 rest
 assertion_same r units rest a b w = (forth, back)
   where
     forth : Left w r units → Left w (with_term r (assertion_node a, rest)).0 rest
@@ -197,7 +200,7 @@ assertion_same r units rest a b w = (forth, back)
 
 -- ---- backreferences
 
-bound_more : (total : Option ℕ) (backs : List Backreference) (b : Backreference) → are_bound total (backs ++ b ∷ []) ≡ (are_bound total backs && is_within total b.number)
+pub bound_more : (total : Option ℕ) (backs : List Backreference) (b : Backreference) → are_bound total (backs ++ b ∷ []) ≡ (are_bound total backs && is_within total b.number)
 bound_more total [] b = and_true (is_within total b.number)
   where
     and_true : (x : Bool) → (x && true) ≡ (true && x)
@@ -233,7 +236,7 @@ atom_term r a rest = quantified (r.groups + 1) (atom_node a) (r.groups + 1) rest
 abbrev atom_reader : Reader → Atom → List ℕ → List ℕ → Reader
 atom_reader r a units rest = record (with_term r (atom_term r a rest)).0 { backs = (with_back r a (length units)).backs }
 
-atom_same : (r : Reader) (units rest : List ℕ) (a : Atom) → Begins units (piece.Atom a) rest → Same r units (with_atom r a units rest).0 (with_atom r a units rest).1
+pub atom_same : (r : Reader) (units rest : List ℕ) (a : Atom) → Begins units (piece.Atom a) rest → Same r units (with_atom r a units rest).0 (with_atom r a units rest).1
 atom_same r units rest a b w = (forth, back)
   where
     forth : Left w r units → Left w (with_atom r a units rest).0 (with_atom r a units rest).1
@@ -250,7 +253,7 @@ atom_same r units rest a b w = (forth, back)
 
 -- ---- classes
 
-class_same : (r : Reader) (units inside : List ℕ) (negated : Bool) (ranges : List (ℕ × ℕ)) (mid : List ℕ) → Begins units (piece.Class negated) inside → IsMembers inside ranges mid → Same r units (with_class r negated ranges mid).0 (with_class r negated ranges mid).1
+pub class_same : (r : Reader) (units inside : List ℕ) (negated : Bool) (ranges : List (ℕ × ℕ)) (mid : List ℕ) → Begins units (piece.Class negated) inside → IsMembers inside ranges mid → Same r units (with_class r negated ranges mid).0 (with_class r negated ranges mid).1
 class_same r units inside negated ranges mid b h w = (forth, back)
   where
     forth : Left w r units → Left w (with_class r negated ranges mid).0 (with_class r negated ranges mid).1
@@ -267,7 +270,7 @@ class_same r units inside negated ranges mid b h w = (forth, back)
     back : Left w (with_class r negated ranges mid).0 (with_class r negated ranges mid).1 → Left w r units
     back l = (l.0, goes_back w.0 (length r.frames) (Ends w r.frames) r.alternatives r.terms r.groups units _ r.groups _ (term_class (length r.frames) r.groups units negated inside ranges mid b h) l.1)
 
-class_stuck : (r : Reader) (units inside : List ℕ) (negated : Bool) → Begins units (piece.Class negated) inside → NoMembers inside → Stuck r units
+pub class_stuck : (r : Reader) (units inside : List ℕ) (negated : Bool) → Begins units (piece.Class negated) inside → NoMembers inside → Stuck r units
 class_stuck r units inside negated b never w l =
     let t = goes_term w (length r.frames) r.frames r.alternatives r.terms r.groups units (piece.Class negated) inside l.1 b refl in
     let i = class_in w.0 (length r.frames) r.groups units t.term t.mid t.next t.is negated inside b (λ n mid next. Unit {0}) tt in
@@ -275,13 +278,13 @@ class_stuck r units inside negated b never w l =
 
 -- ---- groups
 
-abbrev framed : Reader → GroupKind → Frame
+abbrev pub framed : Reader → GroupKind → Frame
 framed r kind = record { kind = kind; before = r.groups; alternatives = r.alternatives; terms = r.terms }
 
-abbrev inner : Reader → GroupKind → ℕ → Reader
+abbrev pub inner : Reader → GroupKind → ℕ → Reader
 inner r kind within = record { frames = framed r kind ∷ r.frames; alternatives = []; terms = []; groups = within; backs = r.backs }
 
-open_same : (r : Reader) (units rest : List ℕ) (kind : GroupKind) (within : ℕ) → Begins units (piece.Open kind) rest → length r.frames < 100 → begun kind r.groups ≡ Some within → Same r units (inner r kind within) rest
+pub open_same : (r : Reader) (units rest : List ℕ) (kind : GroupKind) (within : ℕ) → Begins units (piece.Open kind) rest → length r.frames < 100 → begun kind r.groups ≡ Some within → Same r units (inner r kind within) rest
 open_same r units rest kind within b lt g w = (forth, back)
   where
     forth : Left w r units → Left w (inner r kind within) rest
@@ -296,19 +299,19 @@ open_same r units rest kind within b lt g w = (forth, back)
         let d = resumed w.0 (suc (length r.frames)) (Ends w (framed r kind ∷ r.frames)) [] within rest l.1 in
         (l.0, goes_back w.0 (length r.frames) (Ends w r.frames) r.alternatives r.terms r.groups units _ d.after _ (term_group (length r.frames) r.groups units kind rest within d.nodes d.after d.rest d.ends.0 b lt g d.disjunction d.ends.1) d.ends.2)
 
-open_stuck : (r : Reader) (units rest : List ℕ) (kind : GroupKind) → Begins units (piece.Open kind) rest → (length r.frames < 100 → (within : ℕ) → begun kind r.groups ≡ Some within → ⊥) → Stuck r units
+pub open_stuck : (r : Reader) (units rest : List ℕ) (kind : GroupKind) → Begins units (piece.Open kind) rest → (length r.frames < 100 → (within : ℕ) → begun kind r.groups ≡ Some within → ⊥) → Stuck r units
 open_stuck r units rest kind b never w l =
     let t = goes_term w (length r.frames) r.frames r.alternatives r.terms r.groups units (piece.Open kind) rest l.1 b refl in
     let i = group_in w.0 (length r.frames) r.groups units t.term t.mid t.next t.is kind rest b (λ n mid next. Unit {0}) tt in
     never i.shallow i.within i.begins
 
-abbrev around : Reader → Frame → List Frame → Reader
+abbrev pub around : Reader → Frame → List Frame → Reader
 around r f fs = record { frames = f ∷ fs; alternatives = r.alternatives; terms = r.terms; groups = r.groups; backs = r.backs }
 
 abbrev pub all_of : Reader → List Node
 all_of r = r.alternatives ++ seq_of r.terms ∷ []
 
-close_same : (r : Reader) (f : Frame) (fs : List Frame) (units rest : List ℕ) → Begins units piece.Close rest → Same (around r f fs) units (with_term (outer r f fs) (closed_in f (all_of r) r.groups rest)).0 (closed_in f (all_of r) r.groups rest).1
+pub close_same : (r : Reader) (f : Frame) (fs : List Frame) (units rest : List ℕ) → Begins units piece.Close rest → Same (around r f fs) units (with_term (outer r f fs) (closed_in f (all_of r) r.groups rest)).0 (closed_in f (all_of r) r.groups rest).1
 close_same r f fs units rest b w = (forth, back)
   where
     forth : Left w (around r f fs) units → Left w (with_term (outer r f fs) (closed_in f (all_of r) r.groups rest)).0 (closed_in f (all_of r) r.groups rest).1
@@ -323,10 +326,10 @@ close_same r f fs units rest b w = (forth, back)
     back : Left w (with_term (outer r f fs) (closed_in f (all_of r) r.groups rest)).0 (closed_in f (all_of r) r.groups rest).1 → Left w (around r f fs) units
     back l = (l.0, goes_none w.0 (length (f ∷ fs)) (Ends w (f ∷ fs)) r.alternatives r.terms r.groups units (inl (rest, b, l.1)))
 
-abbrev outside : Reader → Reader
+abbrev pub outside : Reader → Reader
 outside r = record { frames = []; alternatives = r.alternatives; terms = r.terms; groups = r.groups; backs = r.backs }
 
-close_stuck : (r : Reader) (units rest : List ℕ) → Begins units piece.Close rest → Stuck (outside r) units
+pub close_stuck : (r : Reader) (units rest : List ℕ) → Begins units piece.Close rest → Stuck (outside r) units
 unfolding piece_at
 close_stuck r units rest b w l =
     elim (goes_stop w 0 [] r.alternatives r.terms r.groups units piece.Close rest l.1 b refl) [
@@ -346,81 +349,3 @@ piece_stuck r u us none w l =
     ends_on : (fs : List Frame) → Ends w fs (r.alternatives ++ seq_of r.terms ∷ []) r.groups (u ∷ us) → ⊥
     ends_on [] e = absurd (let never = e.0 in cc)
     ends_on (f ∷ fs) e = absurd (let some = e.1 in cc)
-
--- ---- what a step answers
-
-pub same_spot : (r : Reader) (units : List ℕ) (s t : Spot) → Same r units t.0 t.1 → Some t ≡ Some s → Same r units s.0 s.1
-same_spot r units s t h e = let same : t ≡ s = cc in subst (λ (q : Spot). Same r units q.0 q.1) same h
-
-fails_lacks : (T Y : Type 0) (read : Option Y) (e : Fault) → Fails e read → (read ≡ None → T) → Lacks T e
-fails_lacks T Y read fault.NoMemory h f = tt
-fails_lacks T Y read (fault.Syntax left) h f = f h
-fails_lacks T Y read (fault.BadEscape left) h f = f h
-fails_lacks T Y read (fault.TooManyGroups left) h f = f h
-
-pub lacks_map : (T S : Type 0) (e : Fault) → Lacks T e → (T → S) → Lacks S e
-lacks_map T S fault.NoMemory h f = tt
-lacks_map T S (fault.Syntax left) h f = f h
-lacks_map T S (fault.BadEscape left) h f = f h
-lacks_map T S (fault.TooManyGroups left) h f = f h
-
-abbrev pub in_frames : Reader → List Frame → Reader
-in_frames r fs = record { frames = fs; alternatives = r.alternatives; terms = r.terms; groups = r.groups; backs = r.backs }
-
-close_some : (r : Reader) (fs : List Frame) (units rest : List ℕ) (s : Spot) → Begins units piece.Close rest → closed_by r fs rest ≡ Some s → Same (in_frames r fs) units s.0 s.1
-close_some r [] units rest s b e = absurd cc
-close_some r (f ∷ fs) units rest s b e = same_spot (in_frames r (f ∷ fs)) units s (with_term (outer r f fs) (closed_in f (all_of r) r.groups rest)) (close_same r f fs units rest b) e
-
-close_none : (r : Reader) (fs : List Frame) (units rest : List ℕ) → Begins units piece.Close rest → closed_by r fs rest ≡ None → Stuck (in_frames r fs) units
-close_none r [] units rest b e = close_stuck r units rest b
-close_none r (f ∷ fs) units rest b e = absurd cc
-
-open_some : (r : Reader) (units rest : List ℕ) (kind : GroupKind) (s : Spot) (x : Bool) (o : Option ℕ) → Begins units (piece.Open kind) rest → nat_lt (length r.frames) 100 ≡ x → begun kind r.groups ≡ o → opened_at (cond x (opened_by r kind o) None) rest ≡ Some s → Same r units s.0 s.1
-open_some r units rest kind s true (Some within) b lt g e = same_spot r units s (inner r kind within, rest) (open_same r units rest kind within b (omega (arith, ltb-true)) g) e
-open_some r units rest kind s true None b lt g e = absurd cc
-open_some r units rest kind s false o b lt g e = absurd cc
-
-open_none : (r : Reader) (units rest : List ℕ) (kind : GroupKind) (x : Bool) (o : Option ℕ) → Begins units (piece.Open kind) rest → nat_lt (length r.frames) 100 ≡ x → begun kind r.groups ≡ o → opened_at (cond x (opened_by r kind o) None) rest ≡ None → Stuck r units
-open_none r units rest kind true (Some within) b lt g e = absurd cc
-open_none r units rest kind true None b lt g e = open_stuck r units rest kind b (λ less within some. let never : Some within ≡ None = sym some ∙ g in absurd cc)
-open_none r units rest kind false o b lt g e = open_stuck r units rest kind b (λ less within some. absurd (omega (arith, ltb-false)))
-
-turned_some : (r : Reader) (units : List ℕ) (p : Piece) (rest : List ℕ) (s : Spot) → Begins units p rest → turned r units p rest ≡ Some s → Same r units s.0 s.1
-turned_some r units piece.Bar rest s b e = same_spot r units s (with_bar r, rest) (bar_same r units rest b) e
-turned_some r units piece.Close rest s b e = close_some r r.frames units rest s b e
-turned_some r units (piece.Open kind) rest s b e = open_some r units rest kind s (nat_lt (length r.frames) 100) (begun kind r.groups) b refl refl e
-turned_some r units (piece.Assertion a) rest s b e = same_spot r units s (with_term r (assertion_node a, rest)) (assertion_same r units rest a b) e
-turned_some r units (piece.Atom a) rest s b e = same_spot r units s (with_atom r a units rest) (atom_same r units rest a b) e
-turned_some r units (piece.Class negated) rest s b e = absurd cc
-
-abbrev is_class : Piece → Bool
-is_class (piece.Class negated) = true
-is_class _ = false
-
-turned_none : (r : Reader) (units : List ℕ) (p : Piece) (rest : List ℕ) → is_class p ≡ false → Begins units p rest → turned r units p rest ≡ None → Stuck r units
-turned_none r units piece.Bar rest c b e = absurd cc
-turned_none r units piece.Close rest c b e = close_none r r.frames units rest b e
-turned_none r units (piece.Open kind) rest c b e = open_none r units rest kind (nat_lt (length r.frames) 100) (begun kind r.groups) b refl refl e
-turned_none r units (piece.Assertion a) rest c b e = absurd cc
-turned_none r units (piece.Atom a) rest c b e = absurd cc
-turned_none r units (piece.Class negated) rest c b e = absurd cc
-
-gives_steps : (r : Reader) (units : List ℕ) (p : Piece) (rest : List ℕ) → is_class p ≡ false → Begins units p rest → (answer : Result Spot Fault) → Gives (λ (s : Spot). s) answer (turned r units p rest) → Steps r units answer
-gives_steps r units p rest c b (Ok s) h = turned_some r units p rest s b h
-gives_steps r units p rest c b (Err e) h = fails_lacks (Stuck r units) Spot (turned r units p rest) e h (turned_none r units p rest c b)
-
-class_steps : (r : Reader) (units : List ℕ) (negated : Bool) (rest : List ℕ) → Begins units (piece.Class negated) rest → (answer : Result Spot Fault) → ClassTurns r negated rest answer → Steps r units answer
-class_steps r units negated rest b (Ok s) h = subst (λ (q : Spot). Same r units q.0 q.1) (sym h.is) (class_same r units rest negated h.ranges h.mid b h.members)
-class_steps r units negated rest b (Err e) h = lacks_map (NoMembers rest) (Stuck r units) e h (class_stuck r units rest negated b)
-
-pub turn_steps : (r : Reader) (units : List ℕ) (p : Piece) (rest : List ℕ) → Begins units p rest → (answer : Result Spot Fault) → Turns r units p rest answer → Steps r units answer
-turn_steps r units (piece.Class negated) rest b answer h = class_steps r units negated rest b answer h
-turn_steps r units piece.Bar rest b answer h = gives_steps r units piece.Bar rest refl b answer h
-turn_steps r units piece.Close rest b answer h = gives_steps r units piece.Close rest refl b answer h
-turn_steps r units (piece.Open kind) rest b answer h = gives_steps r units (piece.Open kind) rest refl b answer h
-turn_steps r units (piece.Assertion a) rest b answer h = gives_steps r units (piece.Assertion a) rest refl b answer h
-turn_steps r units (piece.Atom a) rest b answer h = gives_steps r units (piece.Atom a) rest refl b answer h
-
-pub none_stuck : (r : Reader) (units : List ℕ) → 0 < length units → piece_at units ≡ None → Stuck r units
-none_stuck r [] h e = absurd (omega arith)
-none_stuck r (u ∷ us) h e = piece_stuck r u us e

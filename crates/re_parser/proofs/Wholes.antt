@@ -1,14 +1,14 @@
 -- Whole patterns: what is spelt leads on from the start, and what was read to the end is the one whole.
-use Rattle.std.proofs.Common.{◌≡◌, ℕ, zero, ◌+◌, suc, ◌<◌, ◌≤◌, Bool, true, false, List, [], ◌∷◌, ◌++◌, length, Option, Some, None, refl, sym, ap, subst, ◌∙◌, arith, inl, inr}
-use Rattle.std.specs.Prelude.{◌⊎◌, ◌↔◌, Result, Ok, Err, IfOk, take}
+use Rattle.std.proofs.Common.{◌≡◌, ℕ, zero, suc, ◌<◌, ◌≤◌, true, false, List, [], ◌∷◌, length, Option, Some, None, refl, sym, ap, subst, ◌∙◌, arith, inl, inr}
+use Rattle.std.specs.Prelude.{Result, Ok, Err, take}
 use Rattle.re_ast.specs.declared.patterns.Node.{Node}
 use Rattle.re_ast.specs.declared.patterns.Flags.{Flags}
 use Rattle.re_ast.specs.declared.patterns.Pattern.{Pattern}
 use Rattle.re_parser.specs.Pieces.{piece_at}
 use Rattle.re_parser.specs.Classes.{Lacks}
-use Rattle.re_parser.specs.Grammar.{Begins, seq_of, alt_of, IsDisjunction, Spells, HasShape}
+use Rattle.re_parser.specs.Grammar.{Begins, alt_of, IsDisjunction, Spells, HasShape}
 use Rattle.re_parser.specs.Flags.{flags_of, flags_from, flags_by, with_flag, no_flags, IsBadFlag}
-use Rattle.re_parser.specs.Reading.{Spot, Goes, Follows, Ends, Left, Whole, Same, Stuck, Steps, ReadsAll, are_bound, bound, start, whole_of}
+use Rattle.re_parser.specs.Reading.{Ends, Left, Whole, Same, Stuck, are_bound, bound, start, whole_of}
 use Rattle.re_parser.specs.Answers.{Answered, FlagsAnswer, IsRefusal, Kinds, Unbound, OnlyWhole, LeadsTo}
 use Rattle.re_parser.specs.declared.kinds.Piece.{Piece}
 use Rattle.re_parser.specs.declared.kinds.Piece.TheVariants as piece
@@ -20,7 +20,8 @@ use Rattle.re_parser.specs.declared.refusal.Fault.TheVariants as fault
 use Rattle.re_parser.specs.declared.refusal.PatternRefusal.{PatternRefusal}
 use Rattle.re_parser.specs.declared.refusal.PatternRefusal.TheVariants as refusal
 use Rattle.re_parser.proofs.Leading.{goes_on}
-use Rattle.re_parser.proofs.Steps.{term_begins, Resumed, resumed, disjunction_goes, lacks_map, in_frames, all_of, goes_none}
+use Rattle.re_parser.proofs.Steps.{term_begins, resumed, disjunction_goes, all_of, goes_none}
+use Rattle.re_parser.proofs.Turns.{lacks_map, in_frames}
 
 -- ---- readings one after another
 
@@ -93,12 +94,12 @@ unbound_leads r h b = (apart, (r.groups, alt_of (all_of r), whole_in r r.frames 
 
 -- ---- from the start
 
-pub refuses : (r : Reader) (units : List ℕ) (e : Fault) (f : PatternRefusal) → IsRefusal e f → Lacks (Stuck r units) e → LeadsTo r units (Err f)
-refuses r units fault.NoMemory refusal.NoMemory h l = tt
-refuses r units (fault.Syntax left) (refusal.Syntax at) h l = l
-refuses r units (fault.BadEscape left) (refusal.BadEscape at) h l = l
-refuses r units (fault.TooManyGroups left) (refusal.TooManyGroups at) h l = l
-refuses r units _ _ h l = absurd h
+pub refuses : (n : ℕ) (r : Reader) (units : List ℕ) (e : Fault) (f : PatternRefusal) → IsRefusal n e f → Lacks (Stuck r units) e → LeadsTo r units (Err f)
+refuses n r units fault.NoMemory refusal.NoMemory h l = tt
+refuses n r units (fault.Syntax left) (refusal.Syntax at) h l = l
+refuses n r units (fault.BadEscape left) (refusal.BadEscape at) h l = l
+refuses n r units (fault.TooManyGroups left) (refusal.TooManyGroups at) h l = l
+refuses n r units _ _ h l = absurd h
 
 stuck_on : (r q : Reader) (a b : List ℕ) → Same r a q b → Stuck q b → Stuck r a
 stuck_on r q a b f g w l = g w ((f w).0 l)
@@ -114,15 +115,15 @@ leads_on r q a b (Err (refusal.TooManyGroups at)) f h = stuck_on r q a b f h
 
 -- ---- what is spelt
 
-shape_left : (body : List ℕ) (limit : Option ℕ) (nodes : List Node) (groups : ℕ) → IsDisjunction limit 0 0 body nodes groups [] → Left (limit, groups, alt_of nodes) start body
+pub shape_left : (body : List ℕ) (limit : Option ℕ) (nodes : List Node) (groups : ℕ) → IsDisjunction limit 0 0 body nodes groups [] → Left (limit, groups, alt_of nodes) start body
 shape_left body limit nodes groups d = (refl, disjunction_goes limit 0 0 body nodes groups [] d (Ends (limit, groups, alt_of nodes) []) [] (refl, refl, refl))
 
-record Spelt (body : List ℕ) (limit : Option ℕ) (groups : ℕ) (n : Node) : Type 0 where
-  nodes : List Node
-  disjunction : IsDisjunction limit 0 0 body nodes groups []
-  node_is : alt_of nodes ≡ n
+pub record Spelt (body : List ℕ) (limit : Option ℕ) (groups : ℕ) (n : Node) : Type 0 where
+  pub nodes : List Node
+  pub disjunction : IsDisjunction limit 0 0 body nodes groups []
+  pub node_is : alt_of nodes ≡ n
 
-left_shape : (body : List ℕ) (limit : Option ℕ) (groups : ℕ) (n : Node) → Left (limit, groups, n) start body → Spelt body limit groups n
+pub left_shape : (body : List ℕ) (limit : Option ℕ) (groups : ℕ) (n : Node) → Left (limit, groups, n) start body → Spelt body limit groups n
 left_shape body limit groups n l =
     let d = resumed limit 0 (Ends (limit, groups, n) []) [] 0 body l.1 in
     record {

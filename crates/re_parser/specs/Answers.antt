@@ -1,12 +1,13 @@
 -- What the parser answers (this project's own).
-use Rattle.std.specs.Prelude.{◌≡◌, ℕ, true, List, [], Option, Some, None, Result, Ok, Err}
+use Rattle.std.specs.Prelude.{◌≡◌, ◌-◌, ℕ, List, [], Some, None, Result, Ok, Err}
 use Rattle.re_ast.specs.declared.patterns.Node.{Node}
 use Rattle.re_ast.specs.declared.patterns.Flags.{Flags}
 use Rattle.re_ast.specs.declared.patterns.Pattern.{Pattern}
 use Rattle.re_parser.specs.Flags.{flags_of, IsBadFlag}
 use Rattle.re_parser.specs.Grammar.{HasShape}
-use Rattle.re_parser.specs.Reading.{Left, Stuck, bound, start}
+use Rattle.re_parser.specs.Reading.{IsFirstUnbound, Left, Stuck, bound}
 use Rattle.re_parser.specs.declared.reader.Reader.{Reader}
+use Rattle.re_parser.specs.declared.reader.Backreference.{Backreference}
 use Rattle.re_parser.specs.declared.refusal.Fault.{Fault}
 use Rattle.re_parser.specs.declared.refusal.Fault.TheVariants as fault
 use Rattle.re_parser.specs.declared.refusal.PatternRefusal.{PatternRefusal}
@@ -23,13 +24,21 @@ abbrev pub FlagsAnswer : List ℕ → Result Pattern PatternRefusal → Type 0
 FlagsAnswer flags (Err (refusal.Flags at)) = IsBadFlag flags at
 FlagsAnswer flags _ = (f : Flags) × (flags_of flags ≡ Some f)
 
--- the same refusal, at some place
-abbrev pub IsRefusal : Fault → PatternRefusal → Type 0
-IsRefusal (fault.Syntax left) (refusal.Syntax at) = Unit {0}
-IsRefusal (fault.BadEscape left) (refusal.BadEscape at) = Unit {0}
-IsRefusal (fault.TooManyGroups left) (refusal.TooManyGroups at) = Unit {0}
-IsRefusal fault.NoMemory refusal.NoMemory = Unit {0}
-IsRefusal _ _ = ⊥
+-- the same refusal, at the place from which on so many units are left
+abbrev pub IsRefusal : ℕ → Fault → PatternRefusal → Type 0
+IsRefusal length (fault.Syntax left) (refusal.Syntax at) = at ≡ length - left
+IsRefusal length (fault.BadEscape left) (refusal.BadEscape at) = at ≡ length - left
+IsRefusal length (fault.TooManyGroups left) (refusal.TooManyGroups at) = at ≡ length - left
+IsRefusal length fault.NoMemory refusal.NoMemory = Unit {0}
+IsRefusal length _ _ = ⊥
+
+-- a body that was read to its end is refused there, or where the first backreference stands that isn't to one of its groups
+abbrev pub EndAnswer : {X : Type 0} → Reader → ℕ → Result X PatternRefusal → Type 0
+EndAnswer r length (Err (refusal.Syntax at)) = at ≡ length
+EndAnswer r length (Err (refusal.BadEscape at)) = ⊥
+EndAnswer r length (Err (refusal.TooManyGroups at)) = ⊥
+EndAnswer r length (Err (refusal.BackrefRange at)) = (r.frames ≡ []) × (b : Backreference) × IsFirstUnbound r.groups r.backs b × (at ≡ length - b.left)
+EndAnswer r length _ = Unit {0}
 
 -- the body has no shape, or, where a backreference is refused, it has one
 abbrev pub Kinds : List ℕ → Result Pattern PatternRefusal → Type 0

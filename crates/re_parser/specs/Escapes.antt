@@ -1,6 +1,5 @@
 -- Escapes and the members of classes (ECMA-262, sections 22.2.1, 22.2.2.9 and B.1.2).
-use Rattle.std.specs.Prelude.{ℕ, ◌+◌, ◌*◌, ◌-◌, ◌==◌, ◌&&◌, not, nat_le, nat_lt, Bool, true, false, List, [], ◌∷◌, ◌++◌, drop, Option, Some, None, if◌then◌else◌}
-use Rattle.std.specs.Option.{option_map}
+use Rattle.std.specs.Prelude.{ℕ, ◌+◌, ◌*◌, ◌-◌, ◌==◌, ◌&&◌, not, nat_le, nat_lt, Bool, false, List, [], ◌∷◌, ◌++◌, drop, Option, Some, None, if◌then◌else◌}
 use Rattle.re_parser.specs.Characters.{is_digit, is_hexadecimal, digit_value, is_sign, control_of}
 use Rattle.re_parser.specs.declared.kinds.ClassEscape.{ClassEscape}
 use Rattle.re_parser.specs.declared.kinds.ClassEscape.TheVariants as escape
@@ -115,10 +114,13 @@ member_at (u ∷ us) =
     else (if u == 93 then None
     else Some (member.One u, us))
 
--- a `-` that another member follows; `]` is none
+abbrev pub is_close : ℕ → Bool
+is_close u = u == 93
+
+-- a `-` that no `]` follows
 abbrev pub begins_range : List ℕ → Bool
 begins_range [] = false
-begins_range (u ∷ us) = u == 45 && starts (λ v. not (v == 93)) us
+begins_range (u ∷ us) = u == 45 && not (starts is_close us)
 
 -- CharacterRangeOrUnion: beside a class escape the `-` stands for itself
 abbrev pub range_of : Member → Member → Option ClassItem

@@ -1,5 +1,5 @@
 -- Flags of patterns (ECMA-262, section 22.2.3.4).
-use Rattle.std.specs.Prelude.{◌≡◌, ◌<◌, ℕ, ◌==◌, suc, Bool, true, false, List, [], ◌∷◌, length, take, Option, Some, None, Result, Ok, Err, if◌then◌else◌}
+use Rattle.std.specs.Prelude.{◌≡◌, ◌<◌, ℕ, ◌==◌, suc, true, false, List, [], ◌∷◌, length, take, Option, Some, None, Result, Ok, Err, if◌then◌else◌}
 use Rattle.re_ast.specs.declared.patterns.Flags.{Flags}
 
 abbrev pub no_flags : Flags

@@ -2,8 +2,11 @@ pub mod Characters
 pub mod Escapes
 pub mod Quantifiers
 pub mod Pieces
+pub mod Agreement
 pub mod Classes
 pub mod Grammar
+pub mod Places
+pub mod Faults
 pub mod Flags
 pub mod Reading
 pub mod Answers

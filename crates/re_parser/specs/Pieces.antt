@@ -1,5 +1,5 @@
 -- The pieces of a pattern's text (ECMA-262, sections 22.2.1 and B.1.2).
-use Rattle.std.specs.Prelude.{ℕ, ◌==◌, ◌&&◌, nat_le, Bool, true, false, List, [], ◌∷◌, Option, Some, None, if◌then◌else◌}
+use Rattle.std.specs.Prelude.{ℕ, ◌==◌, ◌&&◌, nat_le, true, false, List, [], ◌∷◌, Option, Some, None, if◌then◌else◌}
 use Rattle.re_parser.specs.Escapes.{character_at, class_escape_of}
 use Rattle.re_parser.specs.Quantifiers.{digits_from, braces_at}
 use Rattle.re_parser.specs.declared.kinds.ClassEscape.{ClassEscape}

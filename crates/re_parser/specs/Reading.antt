@@ -1,8 +1,12 @@
 -- This project's own: patterns read piece by piece. A reader holds what was read; `Left` says which units lead on from it to a whole pattern.
-use Rattle.std.specs.Prelude.{◌≡◌, ◌↔◌, ◌⊎◌, ℕ, ◌+◌, nat_le, nat_lt, Bool, true, false, List, [], ◌∷◌, ◌++◌, length, Option, Some, None, Result, Ok, Err, if◌then◌else◌}
+use Rattle.std.specs.Prelude.{◌≡◌, ◌↔◌, ◌⊎◌, ◌<◌, ◌≤◌, ℕ, ◌+◌, nat_lt, Bool, true, false, List, [], ◌∷◌, ◌++◌, length, Option, Some, None, Result, Ok, Err, if◌then◌else◌}
 use Rattle.std.specs.List.{list_all}
 use Rattle.re_ast.specs.declared.patterns.Node.{Node}
 use Rattle.re_ast.specs.declared.patterns.Node.TheVariants as node
+use Rattle.re_parser.specs.Agreement.{Agree, is_caret}
+use Rattle.re_parser.specs.Escapes.{starts}
+use Rattle.re_parser.specs.Quantifiers.{digits_from}
+use Rattle.re_parser.specs.Places.{Viable, Barren, ViableWithin, IsSyntax, IsBadEscape, IsTenthGroup, IsFirst, IsMarkDue}
 use Rattle.re_parser.specs.Classes.{IsMembers, NoMembers, Lacks}
 use Rattle.re_parser.specs.Grammar.{Begins, seq_of, alt_of, assertion_node, atom_node, quantified, closed, begun, is_within, IsDisjunction, IsAlternative}
 use Rattle.re_parser.specs.declared.kinds.GroupKind.{GroupKind}
@@ -154,11 +158,125 @@ Same r units q rest = (w : Whole) → Left w r units ↔ Left w q rest
 abbrev pub Stuck : Reader → List ℕ → Type 0
 Stuck r units = (w : Whole) → Left w r units → ⊥
 
+-- ---- what goes on behind units in front of which a reader stands
+
+-- these units and others, in place of those that were there, lead to a whole
+pub record GoesOn (r : Reader) (units front : List ℕ) : Type 0 where
+  pub more : List ℕ
+  pub agrees : Agree units (front ++ more)
+  pub groups : ℕ
+  pub node : Node
+  pub leads : Left (None, groups, node) r (front ++ more)
+
+-- these units lead to no whole, whatever is behind them
+abbrev pub StopsAt : Reader → List ℕ → List ℕ → Type 0
+StopsAt r units front = (more : List ℕ) → Agree units (front ++ more) × Stuck r (front ++ more)
+
+-- so many of the units are left behind the place
+pub record IsLeft (units : List ℕ) (left : ℕ) (P : List ℕ → List ℕ → Type 0) : Type 0 where
+  pub front : List ℕ
+  pub rest : List ℕ
+  pub parts : units ≡ front ++ rest
+  pub count : left ≡ length rest
+  pub is : P front rest
+
+-- what a fault says of the units
+abbrev pub FaultOf : (Goes Stops Due : List ℕ → Type 0) → List ℕ → Fault → Type 0
+FaultOf Goes Stops Due units fault.NoMemory = Unit {0}
+FaultOf Goes Stops Due units (fault.Syntax left) = IsLeft units left (IsSyntax Goes Stops Due)
+FaultOf Goes Stops Due units (fault.BadEscape left) = IsLeft units left (IsFirst 92 (IsBadEscape Goes Stops))
+FaultOf Goes Stops Due units (fault.TooManyGroups left) = IsLeft units left (IsFirst 40 (IsTenthGroup Goes Stops))
+
+-- a refusal says this
+abbrev pub Faults : {X : Type 0} → (Fault → Type 0) → Result X Fault → Type 0
+Faults P (Ok x) = Unit {0}
+Faults P (Err e) = P e
+
+-- why a `(` is refused from which on so many units are left
+abbrev pub OpenFault : Reader → GroupKind → ℕ → Fault → Type 0
+OpenFault r kind left fault.NoMemory = Unit {0}
+OpenFault r kind left (fault.Syntax n) = (n ≡ left) × (100 ≤ length r.frames)
+OpenFault r kind left (fault.TooManyGroups n) = (n ≡ left) × (length r.frames < 100) × (begun kind r.groups ≡ None)
+OpenFault r kind left (fault.BadEscape n) = ⊥
+
+-- why a `)` is
+abbrev pub CloseFault : Reader → ℕ → Fault → Type 0
+CloseFault r left fault.NoMemory = Unit {0}
+CloseFault r left (fault.Syntax n) = (n ≡ left) × (r.frames ≡ [])
+CloseFault r left _ = ⊥
+
+-- members and `]` behind these units, and where there are none, no `^`
+pub record MembersGo (front : List ℕ) : Type 0 where
+  pub more : List ℕ
+  pub caret : starts is_caret front ≡ false → (tail : List ℕ) → starts is_caret (front ++ (more ++ tail)) ≡ false
+  pub ranges : List (ℕ × ℕ)
+  pub members : (tail : List ℕ) → IsMembers (front ++ (more ++ tail)) ranges tail
+
+-- no mark is due in a class
+abbrev pub NoMark : List ℕ → Type 0
+NoMark front = ⊥
+
+-- none, whatever is behind them
+abbrev pub MembersStop : List ℕ → Type 0
+MembersStop front = (more : List ℕ) → NoMembers (front ++ more)
+
+-- what a fault of a step says
+abbrev pub TurnFault : Reader → List ℕ → Piece → List ℕ → Fault → Type 0
+TurnFault r units piece.Close rest e = CloseFault r (length units) e
+TurnFault r units (piece.Open kind) rest e = OpenFault r kind (length units) e
+TurnFault r units (piece.Class negated) rest e = FaultOf MembersGo MembersStop NoMark rest e
+TurnFault r units _ rest e = Unit {0}
+
 -- what one step answers, and what a whole reading does
+pub record IsStep (r : Reader) (units : List ℕ) (s : Spot) : Type 0 where
+  pub part : List ℕ
+  pub parts : units ≡ part ++ s.1
+  pub leads : (more : List ℕ) → Agree s.1 more → Same r (part ++ more) s.0 more
+
+-- the backreference in front of which a reader stands
+pub record IsBackHere (r : Reader) (units : List ℕ) (number : ℕ) : Type 0 where
+  pub digits : List ℕ
+  pub behind : List ℕ
+  pub is : units ≡ 92 ∷ digits ++ behind
+  pub counts : digits_from 0 (digits ++ behind) ≡ (number, behind)
+  pub there : (most : ℕ) → most < number → (more : List ℕ) → Agree units (92 ∷ digits ++ more) × ((groups : ℕ) (n : Node) → Left (Some most, groups, n) r (92 ∷ digits ++ more) → ⊥)
+
+-- the backreferences behind a step
+abbrev pub StepBacks : Reader → List ℕ → Reader → Type 0
+StepBacks r units q = (q.backs ≡ r.backs) ⊎ ((number : ℕ) × (q.backs ≡ r.backs ++ (record { number = number; left = length units }) ∷ []) × IsBackHere r units number)
+
+-- a backreference of the body, behind others
+pub record IsBack (body : List ℕ) (earlier : List Backreference) (b : Backreference) : Type 0 where
+  pub front : List ℕ
+  pub rest : List ℕ
+  pub parts : body ≡ front ++ rest
+  pub count : b.left ≡ length rest
+  pub digits : List ℕ
+  pub behind : List ℕ
+  pub is : rest ≡ 92 ∷ digits ++ behind
+  pub counts : digits_from 0 (digits ++ behind) ≡ (b.number, behind)
+  pub before : (most : ℕ) → are_bound (Some most) earlier ≡ true → ViableWithin most front
+  pub there : (most : ℕ) → most < b.number → ViableWithin most (front ++ 92 ∷ digits) → ⊥
+
+abbrev pub AreBacks : List ℕ → List Backreference → Type 0
+AreBacks body backs = (earlier : List Backreference) (b : Backreference) (later : List Backreference) → backs ≡ earlier ++ b ∷ later → IsBack body earlier b
+
+abbrev pub first_back : List Backreference → Option (Backreference × List Backreference)
+first_back [] = None
+first_back (b ∷ backs) = Some (b, backs)
+
+-- the first backreference that isn't to one of the groups
+pub record IsFirstUnbound (groups : ℕ) (backs : List Backreference) (b : Backreference) : Type 0 where
+  pub earlier : List Backreference
+  pub later : List Backreference
+  pub parts : backs ≡ earlier ++ b ∷ later
+  pub bound : are_bound (Some groups) earlier ≡ true
+  pub above : groups < b.number
+
 abbrev pub Steps : Reader → List ℕ → Result Spot Fault → Type 0
-Steps r units (Ok s) = Same r units s.0 s.1
-Steps r units (Err e) = Lacks (Stuck r units) e
+Steps r units (Ok s) = IsStep r units s × StepBacks r units s.0
+Steps r units (Err e) = Lacks (Stuck r units) e × FaultOf (GoesOn r units) (StopsAt r units) (IsMarkDue (StopsAt r units)) units e
 
 abbrev pub ReadsAll : List ℕ → Result Reader Fault → Type 0
-ReadsAll units (Ok r) = Same start units r []
-ReadsAll units (Err e) = Lacks (Stuck start units) e
+ReadsAll units (Ok r) = IsStep start units (r, []) × AreBacks units r.backs
+ReadsAll units (Err e) = Lacks (Stuck start units) e × FaultOf Viable Barren (IsMarkDue Barren) units e

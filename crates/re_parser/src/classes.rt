@@ -3,6 +3,7 @@
 ghost use Rattle.std.specs.Prelude.{◌≡◌, ◌<◌, ◌≤◌, length, IfOk, IfSome};
 ghost use Rattle.std.specs.Option.{option_map};
 ghost use Rattle.re_parser.specs.Classes.{map_ok, close_at, MembersEnd};
+ghost use Rattle.re_parser.specs.Reading.{Faults, FaultOf, MembersGo, MembersStop, NoMark};
 
 use crate::characters::CLOSE_BRACKET;
 use crate::escapes::class_item;
@@ -26,6 +27,7 @@ fn behind_close(units: &[u16]) -> Option<&[u16]>
 /// The ranges of the members behind `[` or `[^`, in the order as written, and what is behind the `]`.
 pub fn members(alloc: Global, units: &[u16]) -> Result<(Items<(u16, u16)>, &[u16]), Fault>
     ensures read { MembersEnd units.now (map_ok (λ x. (x.0, x.1.now)) result) }
+    ensures faults { Faults (FaultOf MembersGo MembersStop NoMark units.now) result }
     ensures shorter { IfOk result (λ x. length x.1.now ≤ length units.now) }
 {
     let mut ranges = Items::new(alloc);

@@ -135,13 +135,14 @@ pub fn member(units: &[u16]) -> Option<(Member, &[u16])>
     }
 }
 
-/// Whether a `-` stands in front that another member follows.
+/// Whether a `-` stands in front that no `]` follows.
 fn begins_range(units: &[u16]) -> bool
     ensures { result ≡ begins_range units.now }
 {
     match units {
+        [] => false,
+        [first] => *first == HYPHEN,
         [first, second, ..] => *first == HYPHEN && *second != CLOSE_BRACKET,
-        _ => false,
     }
 }
 

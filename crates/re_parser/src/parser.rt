@@ -1,10 +1,12 @@
 //! Whole patterns (ECMA-262, section 22.2.1).
 
-ghost use Rattle.std.specs.Prelude.{◌≡◌, true, false, [], Some, IfOk, MatchOption};
+ghost use Rattle.std.specs.Prelude.{◌≡◌, ◌<◌, true, [], Some, length, IfOk, IfSome, MatchOption};
+ghost use Rattle.std.specs.Option.{option_map};
 ghost use Rattle.re_ast.specs.declared.patterns.Pattern.{Pattern as SpecPattern};
 ghost use Rattle.re_parser.specs.Grammar.{Spells};
-ghost use Rattle.re_parser.specs.Reading.{Gives, whole_of, start, are_bound};
-ghost use Rattle.re_parser.specs.Answers.{Answered, FlagsAnswer, Kinds, IsRefusal, LeadsTo};
+ghost use Rattle.re_parser.specs.Reading.{Gives, whole_of, start, are_bound, IsFirstUnbound, first_back};
+ghost use Rattle.re_parser.specs.Places.{IsRefusedAt};
+ghost use Rattle.re_parser.specs.Answers.{Answered, FlagsAnswer, Kinds, IsRefusal, EndAnswer, LeadsTo};
 
 use crate::flags::read_flags;
 use crate::reader::{Backreference, Reader, read_all};
@@ -16,7 +18,7 @@ use std::alloc::Global;
 
 /// The place of a fault in a body of this length.
 fn refusal(length: usize, fault: Fault) -> PatternRefusal
-    ensures { IsRefusal fault result }
+    ensures { IsRefusal length fault result }
 {
     match fault {
         Fault::Syntax { left } => PatternRefusal::Syntax {
@@ -32,14 +34,25 @@ fn refusal(length: usize, fault: Fault) -> PatternRefusal
     }
 }
 
+/// The first backreference, and those behind it.
+fn first_back(backs: &[Backreference]) -> Option<(Backreference, &[Backreference])>
+    ensures read { option_map (λ x. (x.0, x.1.now)) result ≡ first_back backs.now }
+    ensures shorter { IfSome result (λ x. length x.1.now < length backs.now) }
+{
+    match backs {
+        [first, rest @ ..] => Some((*first, rest)),
+        [] => None,
+    }
+}
+
 /// The first backreference to a group that isn't there.
 fn first_unbound(backs: &[Backreference], groups: u8) -> Option<Backreference>
-    ensures { MatchOption result (are_bound (Some groups) backs.now ≡ true) (λ b. are_bound (Some groups) backs.now ≡ false) }
+    ensures { MatchOption result (are_bound (Some groups) backs.now ≡ true) (λ b. IsFirstUnbound groups backs.now b) }
 {
     let mut left = backs;
-    while let [first, rest @ ..] = left {
+    while let Some((first, rest)) = first_back(left) {
         if first.number > u32::from(groups) {
-            return Some(*first);
+            return Some(first);
         }
         left = rest;
     }
@@ -64,7 +77,8 @@ fn tree_of(reader: Reader) -> Result<(Node, u32), Fault>
 
 /// What a body that was read to its end spells.
 fn whole(reader: Reader, length: usize) -> Result<(Node, u32), PatternRefusal>
-    ensures { LeadsTo reader [] result }
+    ensures leads { LeadsTo reader [] result }
+    ensures place { EndAnswer reader length result }
 {
     if reader.frames.len() > 0 {
         return Err(PatternRefusal::Syntax { at: length });
@@ -81,7 +95,8 @@ fn whole(reader: Reader, length: usize) -> Result<(Node, u32), PatternRefusal>
 }
 
 fn body_of(alloc: Global, body: &[u16]) -> Result<(Node, u32), PatternRefusal>
-    ensures { LeadsTo start body.now result }
+    ensures leads { LeadsTo start body.now result }
+    ensures place { IsRefusedAt body.now result }
 {
     match read_all(alloc, body) {
         Ok(reader) => whole(reader, body.len()),
@@ -100,6 +115,9 @@ pub fn parse_pattern(alloc: Global, body: &Units, flags: &Units) -> Result<Patte
     ensures flags { FlagsAnswer flags.now result }
     // A backreference is refused only where nothing else of the body is.
     ensures kinds { Kinds body.now result }
+    // The first of a syntax error, an escape that isn't listed and a tenth group is refused at its place;
+    // where there is none, the first backreference to a group that isn't there.
+    ensures place { IsRefusedAt body.now result }
 {
     let flags = match read_flags(flags.as_slice()) {
         Ok(flags) => flags,

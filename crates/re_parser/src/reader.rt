@@ -3,7 +3,7 @@
 ghost use Rattle.std.specs.Prelude.{◌≡◌, ◌<◌, ◌≤◌, ◌+◌, length, Some, IfOk};
 ghost use Rattle.re_parser.specs.Grammar.{begun};
 ghost use Rattle.re_parser.specs.Classes.{map_ok};
-ghost use Rattle.re_parser.specs.Reading.{Gives, with_term, with_bar, with_back, with_atom, opened_by, with_open, with_close, turned, ClassTurns, Turns, Steps, ReadsAll, start};
+ghost use Rattle.re_parser.specs.Reading.{Gives, Faults, OpenFault, CloseFault, TurnFault, FaultOf, MembersGo, MembersStop, NoMark, with_term, with_bar, with_back, with_atom, opened_by, with_open, with_close, turned, ClassTurns, Turns, Steps, ReadsAll, start};
 
 use crate::classes::members;
 use crate::faults::piece_fault;
@@ -145,7 +145,8 @@ fn begun(kind: GroupKind, before: u8) -> Option<u8>
 
 /// A `(`, with `left` units from it on.
 fn with_open(alloc: Global, reader: Reader, kind: GroupKind, left: usize) -> Result<Reader, Fault>
-    ensures { Gives (λ x. x) result (with_open reader kind) }
+    ensures read { Gives (λ x. x) result (with_open reader kind) }
+    ensures faults { Faults (OpenFault reader kind left) result }
 {
     if reader.frames.len() >= MAX_OPEN {
         return Err(Fault::Syntax { left });
@@ -184,6 +185,7 @@ fn with_close(
     left: usize,
 ) -> Result<(Reader, &[u16]), Fault>
     ensures read { Gives (λ x. (x.0, x.1.now)) result (with_close reader rest.now) }
+    ensures faults { Faults (CloseFault reader left) result }
     ensures shorter { IfOk result (λ x. length x.1.now ≤ length rest.now) }
 {
     let Reader {
@@ -221,6 +223,7 @@ fn with_class(
     inside: &[u16],
 ) -> Result<(Reader, &[u16]), Fault>
     ensures read { ClassTurns reader negated inside.now (map_ok (λ x. (x.0, x.1.now)) result) }
+    ensures faults { Faults (FaultOf MembersGo MembersStop NoMark inside.now) result }
     ensures shorter { IfOk result (λ x. length x.1.now ≤ length inside.now) }
 {
     let (ranges, rest) = members(alloc, inside)?;
@@ -239,6 +242,7 @@ fn turn<'a>(
     rest: &'a [u16],
 ) -> Result<(Reader, &'a [u16]), Fault>
     ensures read { Turns reader units.now piece rest.now (map_ok (λ x. (x.0, x.1.now)) result) }
+    ensures faults { Faults (TurnFault reader units.now piece rest.now) result }
     ensures shorter { IfOk result (λ x. length x.1.now ≤ length rest.now) }
 {
     match piece {
@@ -275,8 +279,9 @@ fn step(alloc: Global, reader: Reader, units: &[u16]) -> Result<(Reader, &[u16])
     ensures read { Steps reader units.now (map_ok (λ x. (x.0, x.1.now)) result) }
     ensures shorter { IfOk result (λ x. length x.1.now < length units.now) }
 {
+    let deep = reader.frames.len() >= MAX_OPEN;
     let Some((piece, rest)) = piece(units) else {
-        return Err(piece_fault(units));
+        return Err(piece_fault(deep, units));
     };
     turn(alloc, reader, units, piece, rest)
 }

@@ -223,5 +223,27 @@ fn open_groups(rt: HostRuntime) -> Result<(), Fail> {
         Ok(_) => assert!(rt; false),
         Err(refusal) => assert_eq!(rt; refusal, PatternRefusal::Syntax { at: 318 }),
     }
+    // A group that is too deep is refused before its mark.
+    let marked = repeated(alloc, (b"(?:", 100), (b"", 0), b"(?*")?;
+    match parse_pattern(alloc, &marked, &flags) {
+        Ok(_) => assert!(rt; false),
+        Err(refusal) => assert_eq!(rt; refusal, PatternRefusal::Syntax { at: 300 }),
+    }
+    Ok(())
+}
+
+/// Time that grows faster than the body would pass the limit of a test.
+#[test]
+fn long_bodies(rt: HostRuntime) -> Result<(), Fail> {
+    let alloc = rt.alloc();
+    let flags = Units::new(alloc);
+    let long = repeated(alloc, (b"(?:a{2}|[b-d])", 71_429), (b"", 0), b"")?;
+    assert_eq!(rt; long.len(), 1_000_006);
+    assert!(rt; parse_pattern(alloc, &long, &flags).is_ok());
+    let open = repeated(alloc, (b"(?:a{2}|[b-d])", 71_429), (b"a{", 1), b"11111111[")?;
+    match parse_pattern(alloc, &open, &flags) {
+        Ok(_) => assert!(rt; false),
+        Err(refusal) => assert_eq!(rt; refusal, PatternRefusal::Syntax { at: 1_000_017 }),
+    }
     Ok(())
 }

@@ -1,9 +1,9 @@
-use Rattle.std.proofs.Common.{◌≡◌, Some, length}
-use Rattle.re_parser.specs.Reading.{are_bound}
+use Rattle.std.proofs.Common.{length}
+use Rattle.re_parser.proofs.Backs.{Searched}
 use Rattle.re_parser.proofs.parser.first_unbound.Given as goal
 
-abbrev pub invariant-loop-left : goal.invariant-loop-left
-invariant-loop-left l = are_bound (Some l.groups) l.left ≡ are_bound (Some l.groups) l.backs
+abbrev pub invariant-loop-first : goal.invariant-loop-first
+invariant-loop-first l = Searched l.groups l.backs l.left
 
-abbrev pub decreases-loop-left : goal.decreases-loop-left
-decreases-loop-left l = length l.left
+abbrev pub decreases-loop-first : goal.decreases-loop-first
+decreases-loop-first l = length l.left
