@@ -1,11 +1,11 @@
 -- The nesting of a stack, from either end, and how deep it may be.
-use Rattle.std.proofs.Common.{◌≡◌, ℕ, ◌+◌, ◌<◌, ◌≤◌, nat_lt, Bool, true, false, List, [], ◌∷◌, reverse, refl, sym, ap, ◌∙◌, arith}
+use Rattle.std.proofs.Common.{◌≡◌, ℕ, ◌+◌, ◌≤◌, nat_lt, Bool, true, false, List, [], ◌∷◌, reverse, refl, sym, ap, ◌∙◌, arith}
 use Rattle.std.proofs.lemmas.Bool.{lt-ltb, ltb-true}
 use mathlib.Core.List.{reverse_aux}
 use Rattle.js_reading.specs.declared.frame.Frame.{Frame}
 use Rattle.js_reading.specs.declared.frame.Frame.TheVariants as frame
 use Rattle.js_reading.specs.declared.frame.Pending.TheVariants as pending
-use Rattle.js_reading.specs.Frames.{begun, begins, depth, depth_before, nests}
+use Rattle.js_reading.specs.Frames.{begun, begins, depth, depth_before}
 
 depth_onto : (fs ks : List Frame) → depth (reverse_aux fs ks) ≡ depth fs + depth ks
 depth_onto [] ks = omega arith

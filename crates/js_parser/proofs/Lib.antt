@@ -1,5 +1,12 @@
-mod Marks
-mod Offsets
-mod Depths
-mod Rooms
-mod Turns
+pub mod Marks
+pub mod Offsets
+pub mod Depths
+pub mod Rooms
+pub mod Turns
+pub mod SlashMarks
+pub mod Goals
+pub mod Spelt
+pub mod OneOutcome
+pub mod Refused
+pub mod Sizes
+pub mod Scripts

@@ -1,7 +1,6 @@
 -- Each mark of the lexer has its entry.
-use Rattle.std.proofs.Common.{◌≡◌, ℕ, ◌-◌, ◌+◌, ◌||◌, Bool, true, false, List, [], ◌∷◌, ◌++◌, length, map, take, drop, Option, Some, None, refl, sym, ap, subst, ◌∙◌, arith}
-use Rattle.std.specs.Prelude.{◌==◌, ◌≤◌, codes, bytes_eq, cond}
-use Rattle.std.specs.List.{list_any}
+use Rattle.std.proofs.Common.{◌≡◌, ℕ, ◌-◌, ◌||◌, Bool, true, false, List, [], ◌∷◌, ◌++◌, length, map, take, drop, Some, refl, ap, subst, ◌∙◌, arith}
+use Rattle.std.specs.Prelude.{◌==◌, ◌≤◌, bytes_eq, cond}
 use Rattle.std.proofs.lemmas.List.{length-append, length-drop, take_at}
 use Rattle.js_lexer.specs.Tables.{is_among}
 use Rattle.js_lexer.specs.Tables.{marks as lexed_marks}

@@ -1,8 +1,8 @@
 -- Byte offsets of places.
-use Rattle.std.proofs.Common.{◌≡◌, ℕ, ◌-◌, ◌+◌, ◌<◌, ◌≤◌, List, [], ◌∷◌, ◌++◌, length, take, drop, refl, sym, ap, ◌∙◌, arith}
+use Rattle.std.proofs.Common.{◌≡◌, ℕ, ◌-◌, ◌+◌, ◌≤◌, List, [], ◌∷◌, ◌++◌, take, drop, sym, ap, ◌∙◌, arith}
 use Rattle.std.proofs.Math.Seq.{take-add}
 use Rattle.std.proofs.lemmas.List.{take-append-drop}
-use Rattle.js_units.specs.Utf8.{unit_size, utf8_size}
+use Rattle.js_units.specs.Utf8.{utf8_size}
 use Rattle.js_parser.specs.Places.{byte_at}
 
 pub size_append : (xs ys : List ℕ) → utf8_size (xs ++ ys) ≡ utf8_size xs + utf8_size ys

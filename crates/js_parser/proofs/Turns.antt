@@ -1,15 +1,13 @@
 -- What one token more says of all that is read.
-use Rattle.std.proofs.Common.{◌≡◌, ℕ, Bool, List, Option, Some, None, refl, sym, ap, subst, ◌∙◌}
-use Rattle.std.specs.Prelude.{Result, Ok, Err}
-use Rattle.js_ast.specs.declared.statement.Stmt.{Stmt}
+use Rattle.std.proofs.Common.{◌≡◌, ℕ, Bool, List, sym, ap, subst, ◌∙◌}
+use Rattle.std.specs.Prelude.{Ok, Err}
 use Rattle.js_grammar.specs.declared.token.Token.{Token}
 use Rattle.js_lexer.specs.declared.token.Goal.{Goal}
 use Rattle.js_lexer.specs.Tokens.{IsNext, IsNone}
 use Rattle.js_reading.specs.declared.mode.Parser.{Parser}
-use Rattle.js_parser.specs.Places.{byte_at}
 use Rattle.js_parser.specs.Tokens.{IsToken, goal_of}
 use Rattle.js_parser.specs.Outcomes.{Outcome, IsOutcome, outcome_none, outcome_over, outcome_refused, outcome_more, is_wide, taken, over}
-use Rattle.js_parser.specs.Finding.{IsFound, IsTaken, IsOver, IsNothing}
+use Rattle.js_parser.specs.Finding.{IsFound, IsTaken, IsOver}
 use Rattle.js_parser.specs.Answers.{Answers, Reads, LeadsOn}
 use Rattle.js_parser.specs.declared.refusal.ScriptRefusal.{ScriptRefusal}
 use Rattle.js_parser.specs.declared.refusal.ScriptRefusal.TheVariants as refusal

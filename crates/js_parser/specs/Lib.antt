@@ -4,3 +4,6 @@ pub mod Nesting
 pub mod Outcomes
 pub mod Finding
 pub mod Answers
+pub mod Spelling
+pub mod Refusals
+pub mod Naming

@@ -1,5 +1,5 @@
 -- This project's own: what reading a text answers, token by token from a place and a state on.
-use Rattle.std.specs.Prelude.{◌≡◌, ◌≢◌, ℕ, nat_lt, Bool, true, false, cond, List, Option, Some, None, Result, Ok, Err}
+use Rattle.std.specs.Prelude.{◌≡◌, ℕ, nat_lt, Bool, true, false, cond, List, Option, Some, None, Result, Ok, Err}
 use Rattle.js_ast.specs.declared.statement.Stmt.{Stmt}
 use Rattle.js_grammar.specs.declared.token.Token.{Token}
 use Rattle.js_lexer.specs.Tokens.{IsNext, IsNone}

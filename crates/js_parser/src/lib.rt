@@ -2,9 +2,12 @@
 #![tactic(auto)]
 
 mod finding;
+mod laws;
 mod nesting;
+mod parser;
 mod reading;
 mod refusal;
 mod tokens;
 
+pub use parser::parse_script;
 pub use refusal::ScriptRefusal;

@@ -1,5 +1,4 @@
-use Rattle.std.proofs.Common.{Ok, Err, subst, sym}
-use Rattle.js_parser.specs.Answers.{Reads}
+use Rattle.std.proofs.Common.{Ok, Err}
 use Rattle.js_parser.proofs.Turns.{leads_on, refused_here, over_here, nothing_here}
 use Rattle.js_parser.proofs.reading.advance.Goals as goal
 

@@ -1,0 +1,29 @@
+//! What reading a text answers, against the grammar: a law of the definitions, with no work to do.
+
+ghost use Rattle.std.specs.Prelude.{◌≡◌, ℕ, List, Ok, Err};
+ghost use Rattle.js_ast.specs.declared.statement.Stmt.{Stmt as SpecStmt};
+ghost use Rattle.js_reading.specs.Reading.{start};
+ghost use Rattle.js_parser.specs.Outcomes.{Outcome, IsOutcome};
+ghost use Rattle.js_parser.specs.Spelling.{IsSpelling};
+ghost use Rattle.js_parser.specs.Refusals.{IsRefusedIn};
+ghost use Rattle.js_parser.specs.declared.refusal.ScriptRefusal.{ScriptRefusal as SpecRefusal};
+
+use js_completeness::completeness;
+use js_lexer::{one_goal, one_token, one_value};
+use js_soundness::{soundness, viability};
+
+/// A text is read exactly where its tokens spell it, as those statements; reading answers one thing; and what is refused
+/// is refused at its place and for its reason.
+pub fn readings()
+    ensures spelt { (text : List ℕ) (body : List SpecStmt) → IsOutcome text 0 start (Ok body) → IsSpelling text body }
+    ensures read { (text : List ℕ) (body : List SpecStmt) → IsSpelling text body → IsOutcome text 0 start (Ok body) }
+    ensures one { (text : List ℕ) (a b : Outcome) → IsOutcome text 0 start a → IsOutcome text 0 start b → a ≡ b }
+    ensures refused { (text : List ℕ) (e : SpecRefusal) → IsOutcome text 0 start (Err e) → IsRefusedIn text e }
+{
+    one_token();
+    one_value();
+    one_goal();
+    completeness();
+    soundness();
+    viability();
+}
