@@ -11,3 +11,6 @@ mod tokens;
 
 pub use parser::parse_script;
 pub use refusal::ScriptRefusal;
+
+#[cfg(test)]
+mod tests;

@@ -1,0 +1,17 @@
+mod accepted;
+mod others;
+mod print;
+mod refused;
+
+use crate::parser::parse_script;
+use crate::refusal::ScriptRefusal;
+use js_ast::Script;
+use std::alloc::Global;
+
+/// The script that the bytes spell; no table has as many bytes as may not be.
+fn parsed(alloc: Global, bytes: &[u8]) -> Result<Script, ScriptRefusal> {
+    if bytes.len() < 2_000_000 {
+        return parse_script(alloc, bytes);
+    }
+    Err(ScriptRefusal::NoMemory)
+}
