@@ -8,5 +8,4 @@ pub mod Goals
 pub mod Spelt
 pub mod OneOutcome
 pub mod Refused
-pub mod Sizes
 pub mod Scripts

@@ -10,10 +10,10 @@ ghost use Rattle.js_parser.specs.Outcomes.{is_wide};
 ghost use Rattle.js_parser.specs.Finding.{IsFound};
 
 use crate::refusal::ScriptRefusal;
-use crate::tokens::{bytes_of, kind_of};
+use crate::tokens::kind_of;
 use js_grammar::Token;
 use js_lexer::{Goal, TokenKind, next_token};
-use js_units::Units;
+use js_units::{Units, utf8_size};
 use std::alloc::Global;
 
 /// What follows a place of a text.
@@ -42,7 +42,7 @@ fn offset(text: &Units, from: usize, bytes: usize, to: usize) -> usize
     ensures place { result ≡ byte_at text.now to }
     ensures small { result < 2 ^ 31 }
 {
-    bytes + bytes_of(&text.as_slice()[from..to])
+    bytes + utf8_size(&text.as_slice()[from..to])
 }
 
 fn is_wide(kind: TokenKind) -> bool

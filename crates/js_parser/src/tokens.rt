@@ -4,7 +4,6 @@ ghost use Rattle.std.specs.Prelude.{◌≡◌, ◌≢◌, ◌≤◌, bytes_eq, m
 ghost use Rattle.js_grammar.specs.declared.token.TokenKind.TheVariants as k;
 ghost use Rattle.js_lexer.specs.Tokens.{IsTokenOf};
 ghost use Rattle.js_lexer.specs.declared.token.TokenKind.TheVariants as lexed;
-ghost use Rattle.js_units.specs.Utf8.{unit_size, utf8_size};
 ghost use Rattle.js_parser.specs.Tokens.{entry, marks, words, word_or_other, kind_of_mark, kind_of_entry, units_of, IsKind, goal_of};
 
 use js_ast::{BinaryOp, LogicalOp, StepOp};
@@ -251,29 +250,4 @@ pub fn goal_of(mode: &Mode) -> Goal
         Mode::Operand { .. } => Goal::Division,
         _ => Goal::Pattern,
     }
-}
-
-fn size_of(unit: u16) -> usize
-    ensures value { result ≡ unit_size unit }
-    ensures most { result ≤ 3 }
-{
-    match unit {
-        0..=0x7f => 1,
-        0x80..=0x7ff => 2,
-        0xd800..=0xdfff => 2,
-        _ => 3,
-    }
-}
-
-/// How many bytes the units have in UTF-8, two for each half of a pair.
-pub fn bytes_of(units: &[u16]) -> usize
-    ensures { result ≡ utf8_size units.now }
-{
-    let mut size = 0usize;
-    let mut left = units;
-    while let [unit, rest @ ..] = left {
-        size += size_of(*unit);
-        left = rest;
-    }
-    size
 }

@@ -1,23 +1,18 @@
-use Rattle.std.proofs.Common.{◌≡◌, ap, arith, ◌∙◌}
-use Rattle.js_units.specs.Utf8.{utf8_size}
-use Rattle.js_parser.proofs.Sizes.{size_text}
+use Rattle.std.proofs.Common.{arith}
 use Rattle.js_parser.proofs.Scripts.{unique, read_only, refused_only}
 use Rattle.js_parser.proofs.parser.parse_script.Goals as goal
 
 pub read-requires : goal.read-requires
-read-requires c =
-    let d = c.in-Ok.ensures in
-    let size : utf8_size c.in-Ok.text ≡ _ = ap utf8_size d.1 ∙ size_text c.args.bytes.now d.0 in
-    omega (arith, size, c.requires)
+read-requires c = omega (arith, c.in-Ok.ensures.size, c.requires)
 
 pub returns-in-Ok-read-clause-only : goal.returns-in-Ok-read-clause-only
-returns-in-Ok-read-clause-only c = read_only c.readings.ensures.read c.readings.ensures.one _ _ _ _ c.in-Ok.ensures.1 c.in-Ok-read.ensures c.named.ensures
+returns-in-Ok-read-clause-only c = read_only c.readings.ensures.read c.readings.ensures.one _ _ _ _ c.in-Ok.ensures.decodes.1 c.in-Ok-read.ensures c.named.ensures
 
 pub returns-in-Ok-read-clause-unique : goal.returns-in-Ok-read-clause-unique
 returns-in-Ok-read-clause-unique c = unique c.readings.ensures.read c.readings.ensures.one c.args.bytes.now
 
 pub returns-in-Ok-clause-only : goal.returns-in-Ok-clause-only
-returns-in-Ok-clause-only c = refused_only c.readings.ensures.read c.readings.ensures.one _ _ _ c.in-Ok.ensures.1 c.in-Err.ensures
+returns-in-Ok-clause-only c = refused_only c.readings.ensures.read c.readings.ensures.one _ _ _ c.in-Ok.ensures.decodes.1 c.in-Err.ensures
 
 pub returns-in-Ok-clause-unique : goal.returns-in-Ok-clause-unique
 returns-in-Ok-clause-unique c = unique c.readings.ensures.read c.readings.ensures.one c.args.bytes.now
