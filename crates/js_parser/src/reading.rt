@@ -2,7 +2,7 @@
 
 ghost use Rattle.std.specs.Prelude.{◌≡◌, ◌≤◌, ◌<◌, ◌^◌, length, Some};
 ghost use Rattle.js_units.specs.Utf8.{utf8_size};
-ghost use Rattle.js_expressions.specs.Answers.{Makes};
+ghost use Rattle.js_operands.specs.Answers.{Makes};
 ghost use Rattle.js_reading.specs.Reading.{start};
 ghost use Rattle.js_parser.specs.Places.{byte_at};
 ghost use Rattle.js_parser.specs.Outcomes.{taken, taken_by, refusal_of, over};
@@ -13,10 +13,10 @@ use crate::nesting::is_too_deep;
 use crate::refusal::ScriptRefusal;
 use crate::tokens::goal_of;
 use js_ast::Stmt;
-use js_expressions::{Stop, opens_list};
 use js_grammar::Token;
+use js_operands::{Stop, opens_list};
 use js_reading::{Braces, Parser, Pile};
-use js_statements::{ends, step};
+use js_steps::{ends, step};
 use js_units::Units;
 use sqlite_items::Items;
 use std::alloc::Global;

@@ -1,11 +1,13 @@
-//! Steps of the parser at statements: what one token more makes of what has been read, and where a script may end.
+//! Steps of the parser at statements: how one begins, what an expression makes of it, and what ends with it.
 #![tactic(auto)]
 
-mod endings;
-mod marks;
-mod openings;
+mod joining;
 mod sections;
 mod statements;
-mod tokens;
 
-pub use tokens::{ends, step};
+pub use joining::{settle, trying};
+pub use sections::{
+    bare, close_round_part, comma_part, declaration_over, declares_more, is_let, is_statement,
+    on_semicolon, over, over_of,
+};
+pub use statements::{after, below, braces_due, declaration, item, opening};

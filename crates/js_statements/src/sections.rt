@@ -1,14 +1,13 @@
 //! Marks behind an expression that is a part of a statement.
 
-ghost use Rattle.std.specs.Prelude.{◌≡◌, ◌∷◌, ◌++◌, [], Some, None};
-ghost use Rattle.js_ast.specs.declared.expression.Expr.{Expr as SpecExpr};
-ghost use Rattle.js_ast.specs.declared.parts.Declarator.{Declarator as SpecDeclarator};
-ghost use Rattle.js_reading.specs.Statements.{is_statement, is_let, of_part, over_of, over, semicolon_part, close_round_part, comma_part, with_declarator, declared, declares_more, declaration_over, do_over, bare};
+ghost use Rattle.std.specs.Prelude.{◌≡◌, ◌∷◌, ◌++◌, []};
+ghost use Rattle.js_reading.specs.Statements.{is_statement, is_let, of_part, over_of, over, semicolon_part, close_round_part, comma_part, declared, declares_more, declaration_over, do_over, bare};
 ghost use Rattle.js_reading.specs.Reading.{semicolon_of, on_semicolon};
-ghost use Rattle.js_expressions.specs.Answers.{Gives, Makes};
+ghost use Rattle.js_operands.specs.Answers.{Gives, Makes};
 
 use js_ast::{DeclarationKind, Declarator, Expr, Identifier, LoopHead, Stmt};
-use js_expressions::{Stop, below_due, wants, whole};
+use js_operands::{Stop, below_due, wants};
+use js_operators::whole;
 use js_reading::{
     Below, Declaring, Ending, Frame, Mode, Opening, Operand, Over, Parser, Part, Pile, Place,
 };

@@ -1,0 +1,86 @@
+//! What ends with an operand.
+
+ghost use Rattle.std.specs.Prelude.{true};
+ghost use Rattle.js_reading.specs.Operands.{settled, closed, whole};
+ghost use Rattle.js_operands.specs.Answers.{Gives, Makes};
+
+use js_ast::{Expr, StepOp, Target};
+use js_operands::{ALL, Stop, close_to, pushed, target_of, value_of};
+use js_reading::{Closed, Frame, Operand, Pile};
+use sqlite_items::Boxed;
+use std::alloc::Global;
+
+/// `++` or `--` before its target.
+fn prefix_step(
+    alloc: Global,
+    site: u32,
+    op: StepOp,
+    target: Target<Boxed<Expr>>,
+) -> Result<Boxed<Expr>, Stop>
+    ensures { Makes result (Expr.Step site site op true target) }
+{
+    Ok(Boxed::new(
+        alloc,
+        Expr::Step {
+            start: site,
+            site,
+            op,
+            is_prefix: true,
+            target,
+        },
+    )?)
+}
+
+/// The operand's tree, or that of the `++` or `--` before it.
+fn settled(alloc: Global, start: u32, operand: Operand, frames: Pile<Frame>) -> Result<Closed, Stop>
+    ensures { Gives (λ x. x) result (settled start operand frames) }
+{
+    let mut frames = frames;
+    match frames.pop() {
+        None => Ok(Closed {
+            start,
+            value: value_of(alloc, operand)?,
+            frames,
+        }),
+        Some(Frame::Step { site, op }) => Ok(Closed {
+            start: site,
+            value: prefix_step(alloc, site, op, target_of(alloc, operand)?)?,
+            frames,
+        }),
+        Some(frame) => Ok(Closed {
+            start,
+            value: value_of(alloc, operand)?,
+            frames: pushed(frames, frame)?,
+        }),
+    }
+}
+
+/// What is tighter than the level ends with the operand.
+pub fn closed(
+    alloc: Global,
+    level: u8,
+    start: u32,
+    operand: Operand,
+    frames: Pile<Frame>,
+) -> Result<Closed, Stop>
+    ensures { Gives (λ x. x) result (closed level start operand frames) }
+{
+    let Closed {
+        start,
+        value,
+        frames,
+    } = settled(alloc, start, operand, frames)?;
+    close_to(alloc, level, start, value, frames)
+}
+
+/// All ends with the operand that may.
+pub fn whole(
+    alloc: Global,
+    start: u32,
+    operand: Operand,
+    frames: Pile<Frame>,
+) -> Result<Closed, Stop>
+    ensures { Gives (λ x. x) result (whole start operand frames) }
+{
+    closed(alloc, ALL, start, operand, frames)
+}

@@ -1,0 +1,235 @@
+//! Tokens behind the beginnings and the ends of statements.
+
+ghost use Rattle.std.specs.Prelude.{◌≡◌};
+ghost use Rattle.js_reading.specs.Statements.{test_on, for_on, for_first, for_word, for_head_on, declare_on, named_semicolon, named_comma, goes_of, ends_bare, named_ends, named_on, function_name_on, opening_on};
+ghost use Rattle.js_operands.specs.Answers.{Gives, Makes};
+
+use js_ast::{DeclarationKind, Identifier, LoopHead};
+use js_grammar::{TokenKind, Word};
+use js_operands::{Stop, heading, is_of, pushed, want, want_word, wants};
+use js_reading::{Declaring, Frame, Header, Heading, Mode, Opening, Parser, Part, Pile, Place};
+use js_statements::{
+    after, bare, declaration, declaration_over, declares_more, is_let, is_statement, opening,
+};
+use js_units::Units;
+use std::alloc::Global;
+
+fn test_on(frames: Pile<Frame>, kind: TokenKind) -> Result<Parser, Stop>
+    ensures { Gives (λ x. x) result (test_on frames kind) }
+{
+    match kind {
+        TokenKind::OpenRound => Ok(Parser {
+            mode: Mode::Want,
+            frames,
+        }),
+        _ => Err(Stop::Syntax),
+    }
+}
+
+fn for_on(site: u32, frames: Pile<Frame>, kind: TokenKind) -> Result<Parser, Stop>
+    ensures { Gives (λ x. x) result (for_on site frames kind) }
+{
+    match kind {
+        TokenKind::OpenRound => opening(Opening::ForHead { site }, frames),
+        _ => Err(Stop::Syntax),
+    }
+}
+
+fn for_first(site: u32, frames: Pile<Frame>) -> Result<Pile<Frame>, Stop>
+    ensures { Makes result (for_first site frames) }
+{
+    pushed(frames, Frame::Part(Part::ForFirst { site }))
+}
+
+fn for_word(
+    alloc: Global,
+    word: Word,
+    site: u32,
+    at: u32,
+    frames: Pile<Frame>,
+) -> Result<Parser, Stop>
+    ensures { Gives (λ x. x) result (for_word word site at frames) }
+{
+    match word {
+        Word::Let => declaration(alloc, Place::Loop, site, DeclarationKind::Let, frames),
+        Word::Const => declaration(alloc, Place::Loop, site, DeclarationKind::Const, frames),
+        word => want_word(alloc, word, at, for_first(site, frames)?),
+    }
+}
+
+/// The first token in the head of a `for`.
+fn for_head_on(
+    alloc: Global,
+    site: u32,
+    at: u32,
+    frames: Pile<Frame>,
+    kind: TokenKind,
+) -> Result<Parser, Stop>
+    ensures { Gives (λ x. x) result (for_head_on site at frames kind) }
+{
+    match kind {
+        TokenKind::Semicolon => {
+            let head = LoopHead::Nothing;
+            wants(Frame::Part(Part::ForTest { site, head }), frames)
+        }
+        TokenKind::Word { word, .. } => for_word(alloc, word, site, at, frames),
+        kind => want(alloc, at, for_first(site, frames)?, kind),
+    }
+}
+
+fn declare_on(
+    declaring: Declaring,
+    at: u32,
+    frames: Pile<Frame>,
+    kind: TokenKind,
+) -> Result<Parser, Stop>
+    ensures { Gives (λ x. x) result (declare_on declaring at frames kind) }
+{
+    match kind {
+        TokenKind::Name(name) => {
+            if !is_statement(declaring.place) && is_of(&name) {
+                return Err(Stop::Syntax);
+            }
+            let name = Identifier { site: at, name };
+            opening(Opening::Named { declaring, name }, frames)
+        }
+        _ => Err(Stop::Syntax),
+    }
+}
+
+fn named_semicolon(
+    alloc: Global,
+    declaring: Declaring,
+    name: Identifier,
+    frames: Pile<Frame>,
+) -> Result<Parser, Stop>
+    ensures { Gives (λ x. x) result (named_semicolon declaring name frames) }
+{
+    if is_let(declaring.kind) {
+        return declaration_over(alloc, declaring, name, None, frames);
+    }
+    Err(Stop::Syntax)
+}
+
+fn named_comma(declaring: Declaring, name: Identifier, frames: Pile<Frame>) -> Result<Parser, Stop>
+    ensures { Gives (λ x. x) result (named_comma declaring name frames) }
+{
+    if is_let(declaring.kind) {
+        return declares_more(declaring, name, None, frames);
+    }
+    Err(Stop::Syntax)
+}
+
+/// Whether a name goes on as a `for` over items.
+fn goes_of(declaring: &Declaring, name: &Units) -> bool
+    ensures { result ≡ goes_of declaring.now name.now }
+{
+    !is_statement(declaring.place) && declaring.declarators.is_empty() && is_of(name)
+}
+
+/// Whether no semicolon is needed before the token, where no expression is.
+pub fn ends_bare(line: bool, kind: &TokenKind) -> bool
+    ensures { result ≡ ends_bare line kind.now }
+{
+    match kind {
+        TokenKind::CloseBrace => true,
+        _ => line,
+    }
+}
+
+fn named_ends(
+    alloc: Global,
+    line: bool,
+    declaring: Declaring,
+    name: Identifier,
+    site: u32,
+    frames: Pile<Frame>,
+    kind: TokenKind,
+) -> Result<Parser, Stop>
+    ensures { Gives (λ x. x) result (named_ends line declaring name site frames kind) }
+{
+    if is_statement(declaring.place) && is_let(declaring.kind) && ends_bare(line, &kind) {
+        let stmt = bare(alloc, declaring, name)?;
+        return after(alloc, site, stmt, frames, kind);
+    }
+    Err(Stop::Syntax)
+}
+
+/// A token behind a declared name.
+fn named_on(
+    alloc: Global,
+    line: bool,
+    declaring: Declaring,
+    name: Identifier,
+    site: u32,
+    frames: Pile<Frame>,
+    kind: TokenKind,
+) -> Result<Parser, Stop>
+    ensures { Gives (λ x. x) result (named_on line declaring name site frames kind) }
+{
+    match kind {
+        TokenKind::Assign(None) => { wants(Frame::Part(Part::Declare { declaring, name }), frames) }
+        TokenKind::Comma => named_comma(declaring, name, frames),
+        TokenKind::Semicolon => named_semicolon(alloc, declaring, name, frames),
+        TokenKind::Name(word) => {
+            if goes_of(&declaring, &word) {
+                let Declaring {
+                    site: begin,
+                    kind,
+                    ..
+                } = declaring;
+                return wants(
+                    Frame::Part(Part::ForOf {
+                        site: begin,
+                        kind,
+                        name,
+                    }),
+                    frames,
+                );
+            }
+            let kind = TokenKind::Name(word);
+            named_ends(alloc, line, declaring, name, site, frames, kind)
+        }
+        kind => named_ends(alloc, line, declaring, name, site, frames, kind),
+    }
+}
+
+fn function_name_on(
+    site: u32,
+    at: u32,
+    frames: Pile<Frame>,
+    kind: TokenKind,
+) -> Result<Parser, Stop>
+    ensures { Gives (λ x. x) result (function_name_on site at frames kind) }
+{
+    match kind {
+        TokenKind::Name(name) => {
+            let name = Identifier { site: at, name };
+            heading(Heading::Open(Header::Function { site, name }), frames)
+        }
+        _ => Err(Stop::Syntax),
+    }
+}
+
+/// A token behind the beginning of a statement.
+pub fn opening_on(
+    alloc: Global,
+    line: bool,
+    opening: Opening,
+    at: u32,
+    frames: Pile<Frame>,
+    kind: TokenKind,
+) -> Result<Parser, Stop>
+    ensures { Gives (λ x. x) result (opening_on line opening at frames kind) }
+{
+    match opening {
+        Opening::Test => test_on(frames, kind),
+        Opening::For { site } => for_on(site, frames, kind),
+        Opening::ForHead { site } => for_head_on(alloc, site, at, frames, kind),
+        Opening::Declare(declaring) => declare_on(declaring, at, frames, kind),
+        Opening::Named { declaring, name } => {
+            named_on(alloc, line, declaring, name, at, frames, kind)
+        }
+        Opening::Function { site } => function_name_on(site, at, frames, kind),
+    }
+}

@@ -1,0 +1,323 @@
+//! One token more, and the end.
+
+ghost use Rattle.std.specs.Prelude.{◌∷◌};
+ghost use Rattle.js_reading.specs.Reading.{ends_before, step_mark, ended_operand, close_brace_of, on_close_brace, ends_by, operand_on, heading_on, step, ended, no_more, ended_ending, ended_trying, ended_opening, ends};
+ghost use Rattle.js_reading.specs.declared.frame.Frame.TheVariants as frame;
+ghost use Rattle.js_reading.specs.declared.frame.Braces.TheVariants as braces;
+ghost use Rattle.js_operands.specs.Answers.{Gives};
+
+use crate::endings::{braces_on, ending_on, trying_on};
+use crate::marks::{on_close_round, on_comma};
+use crate::openings::opening_on;
+use js_ast::{Expr, Member, StepOp, Stmt};
+use js_brackets::{
+    arrow_due_on, object, on_close_square, on_colon, open_on, parameter_on, parameters_on,
+    piece_on, with_member,
+};
+use js_grammar::{Token, TokenKind};
+use js_operands::{Stop, continues, want};
+use js_operators::{continued, on_arrow, on_step, whole};
+use js_reading::{
+    Braces, Bracket, Ending, Frame, Heading, Mode, Opening, Operand, Parser, Pile, Trying,
+};
+use js_statements::{
+    after, bare, below, is_let, is_statement, item, on_semicolon, over_of, settle,
+};
+use sqlite_items::{Boxed, Items};
+use std::alloc::Global;
+
+/// The statement ends, and the token begins another or ends the list.
+fn ends_before(
+    alloc: Global,
+    site: u32,
+    start: u32,
+    operand: Operand,
+    frames: Pile<Frame>,
+    kind: TokenKind,
+) -> Result<Parser, Stop>
+    ensures { Gives (λ x. x) result (ends_before site start operand frames kind) }
+{
+    let closed = whole(alloc, start, operand, frames)?;
+    let over = over_of(alloc, closed.value, closed.frames)?;
+    after(alloc, site, over.value, over.frames, kind)
+}
+
+/// `}` of an object, or of the list around the statement.
+fn close_brace_of(
+    alloc: Global,
+    site: u32,
+    value: Boxed<Expr>,
+    frames: Pile<Frame>,
+) -> Result<Parser, Stop>
+    ensures { Gives (λ x. x) result (close_brace_of site value frames) }
+{
+    let mut frames = frames;
+    match frames.pop() {
+        None => Err(Stop::Syntax),
+        Some(
+            Frame::Bracket(
+                Bracket::Member {
+                    site,
+                    members,
+                    key_site,
+                    key,
+                },
+            ),
+        ) => {
+            let members = with_member(
+                members,
+                Member::Value {
+                    site: key_site,
+                    key,
+                    value,
+                },
+            )?;
+            object(alloc, site, members, frames)
+        }
+        Some(frame) => {
+            frames.push(frame)?;
+            let over = over_of(alloc, value, frames)?;
+            after(alloc, site, over.value, over.frames, TokenKind::CloseBrace)
+        }
+    }
+}
+
+fn on_close_brace(
+    alloc: Global,
+    site: u32,
+    start: u32,
+    operand: Operand,
+    frames: Pile<Frame>,
+) -> Result<Parser, Stop>
+    ensures { Gives (λ x. x) result (on_close_brace site start operand frames) }
+{
+    let closed = whole(alloc, start, operand, frames)?;
+    close_brace_of(alloc, site, closed.value, closed.frames)
+}
+
+/// `++` or `--`: on the operand's line behind it, else before the next statement's target.
+fn step_mark(
+    alloc: Global,
+    line: bool,
+    op: StepOp,
+    site: u32,
+    start: u32,
+    operand: Operand,
+    frames: Pile<Frame>,
+) -> Result<Parser, Stop>
+    ensures { Gives (λ x. x) result (step_mark line op site start operand frames) }
+{
+    if line {
+        return ends_before(alloc, site, start, operand, frames, TokenKind::Step(op));
+    }
+    on_step(alloc, op, site, start, operand, frames)
+}
+
+/// A token behind the end of an expression.
+fn ended_by(
+    alloc: Global,
+    line: bool,
+    site: u32,
+    start: u32,
+    operand: Operand,
+    frames: Pile<Frame>,
+    kind: TokenKind,
+) -> Result<Parser, Stop>
+    ensures { Gives (λ x. x) result (ends_by line site start operand frames kind) }
+{
+    match kind {
+        TokenKind::Arrow => on_arrow(alloc, line, start, operand, frames),
+        TokenKind::Step(op) => step_mark(alloc, line, op, site, start, operand, frames),
+        TokenKind::CloseRound => on_close_round(alloc, start, operand, frames),
+        TokenKind::CloseSquare => on_close_square(alloc, start, operand, frames),
+        TokenKind::CloseBrace => on_close_brace(alloc, site, start, operand, frames),
+        TokenKind::Comma => on_comma(alloc, start, operand, frames),
+        TokenKind::Colon => on_colon(alloc, start, operand, frames),
+        TokenKind::Semicolon => on_semicolon(alloc, start, operand, frames),
+        kind => {
+            if line {
+                return ends_before(alloc, site, start, operand, frames, kind);
+            }
+            Err(Stop::Syntax)
+        }
+    }
+}
+
+fn operand_on(
+    alloc: Global,
+    line: bool,
+    site: u32,
+    start: u32,
+    operand: Operand,
+    frames: Pile<Frame>,
+    kind: TokenKind,
+) -> Result<Parser, Stop>
+    ensures { Gives (λ x. x) result (operand_on line site start operand frames kind) }
+{
+    if continues(&operand, &kind) {
+        return continued(alloc, site, start, operand, frames, kind);
+    }
+    ended_by(alloc, line, site, start, operand, frames, kind)
+}
+
+fn heading_on(
+    alloc: Global,
+    line: bool,
+    heading: Heading,
+    at: u32,
+    frames: Pile<Frame>,
+    kind: TokenKind,
+) -> Result<Parser, Stop>
+    ensures { Gives (λ x. x) result (heading_on line heading at frames kind) }
+{
+    match heading {
+        Heading::Open(header) => open_on(alloc, header, frames, kind),
+        Heading::Parameters { header, names } => parameters_on(header, names, at, frames, kind),
+        Heading::Parameter { header, names } => parameter_on(header, names, frames, kind),
+        Heading::Arrow { start, names } => arrow_due_on(line, start, names, frames, kind),
+        Heading::Braces(braces) => braces_on(alloc, braces, frames, kind),
+    }
+}
+
+/// One token more.
+pub fn step(alloc: Global, parser: Parser, token: Token) -> Result<Parser, Stop>
+    ensures { Gives (λ x. x) result (step parser token) }
+{
+    let Parser { mode, frames } = parser;
+    let Token {
+        kind,
+        start: at,
+        line_before: line,
+    } = token;
+    match mode {
+        Mode::Statement => item(alloc, at, frames, kind),
+        Mode::Below => below(alloc, at, frames, kind),
+        Mode::Want => want(alloc, at, frames, kind),
+        Mode::Operand { start, operand } => {
+            operand_on(alloc, line, at, start, operand, frames, kind)
+        }
+        Mode::Ending(ending) => ending_on(alloc, line, ending, at, frames, kind),
+        Mode::Trying(trying) => trying_on(alloc, trying, at, frames, kind),
+        Mode::Opening(opening) => opening_on(alloc, line, opening, at, frames, kind),
+        Mode::Heading(heading) => heading_on(alloc, line, heading, at, frames, kind),
+        Mode::Piece(piece) => piece_on(alloc, piece, at, frames, kind),
+    }
+}
+
+/// The statements of the script, where nothing else is around them.
+fn alone(body: Items<Stmt>, frames: Pile<Frame>) -> Result<Items<Stmt>, Stop>
+    ensures { Gives (λ x. x) result (no_more (frame.List braces.Script body ∷ frames)) }
+{
+    let mut frames = frames;
+    match frames.pop() {
+        None => Ok(body),
+        Some(_) => Err(Stop::Syntax),
+    }
+}
+
+/// The statements, where they are those of the script.
+fn outermost(braces: Braces, body: Items<Stmt>, frames: Pile<Frame>) -> Result<Items<Stmt>, Stop>
+    ensures { Gives (λ x. x) result (no_more (frame.List braces body ∷ frames)) }
+{
+    match braces {
+        Braces::Script => alone(body, frames),
+        _ => Err(Stop::Syntax),
+    }
+}
+
+/// The statements of the script, where it may end.
+fn no_more(frames: Pile<Frame>) -> Result<Items<Stmt>, Stop>
+    ensures { Gives (λ x. x) result (no_more frames) }
+{
+    let mut frames = frames;
+    match frames.pop() {
+        Some(Frame::List { braces, body }) => outermost(braces, body, frames),
+        _ => Err(Stop::Syntax),
+    }
+}
+
+/// The same behind its last statement.
+fn ended(alloc: Global, stmt: Boxed<Stmt>, frames: Pile<Frame>) -> Result<Items<Stmt>, Stop>
+    ensures { Gives (λ x. x) result (ended stmt frames) }
+{
+    let over = settle(alloc, false, stmt, frames)?;
+    let mut body = no_more(over.frames)?;
+    body.push(over.value.into_inner())?;
+    Ok(body)
+}
+
+fn ended_ending(alloc: Global, ending: Ending, frames: Pile<Frame>) -> Result<Items<Stmt>, Stop>
+    ensures { Gives (λ x. x) result (ended_ending ending frames) }
+{
+    match ending {
+        Ending::Over(stmt) => ended(alloc, stmt, frames),
+        Ending::Do(stmt) => ended(alloc, stmt, frames),
+        Ending::Jump(stmt) => ended(alloc, stmt, frames),
+        Ending::Return { site } => {
+            let stmt = Boxed::new(alloc, Stmt::Return { site, value: None })?;
+            ended(alloc, stmt, frames)
+        }
+        Ending::Throw { .. } => Err(Stop::Syntax),
+    }
+}
+
+fn ended_trying(alloc: Global, trying: Trying, frames: Pile<Frame>) -> Result<Items<Stmt>, Stop>
+    ensures { Gives (λ x. x) result (ended_trying trying frames) }
+{
+    match trying {
+        Trying::Caught { site, body, catch } => {
+            let stmt = Stmt::Try {
+                site,
+                body,
+                catch: Some(catch),
+                finally: None,
+            };
+            let stmt = Boxed::new(alloc, stmt)?;
+            ended(alloc, stmt, frames)
+        }
+        _ => Err(Stop::Syntax),
+    }
+}
+
+fn ended_opening(alloc: Global, opening: Opening, frames: Pile<Frame>) -> Result<Items<Stmt>, Stop>
+    ensures { Gives (λ x. x) result (ended_opening opening frames) }
+{
+    match opening {
+        Opening::Named { declaring, name } => {
+            if is_statement(declaring.place) && is_let(declaring.kind) {
+                let stmt = bare(alloc, declaring, name)?;
+                return ended(alloc, stmt, frames);
+            }
+            Err(Stop::Syntax)
+        }
+        _ => Err(Stop::Syntax),
+    }
+}
+
+fn ended_operand(
+    alloc: Global,
+    start: u32,
+    operand: Operand,
+    frames: Pile<Frame>,
+) -> Result<Items<Stmt>, Stop>
+    ensures { Gives (λ x. x) result (ended_operand start operand frames) }
+{
+    let closed = whole(alloc, start, operand, frames)?;
+    let over = over_of(alloc, closed.value, closed.frames)?;
+    ended(alloc, over.value, over.frames)
+}
+
+/// The script, where no token follows.
+pub fn ends(alloc: Global, parser: Parser) -> Result<Items<Stmt>, Stop>
+    ensures { Gives (λ x. x) result (ends parser) }
+{
+    let Parser { mode, frames } = parser;
+    match mode {
+        Mode::Statement => no_more(frames),
+        Mode::Operand { start, operand } => ended_operand(alloc, start, operand, frames),
+        Mode::Ending(ending) => ended_ending(alloc, ending, frames),
+        Mode::Trying(trying) => ended_trying(alloc, trying, frames),
+        Mode::Opening(opening) => ended_opening(alloc, opening, frames),
+        _ => Err(Stop::Syntax),
+    }
+}
