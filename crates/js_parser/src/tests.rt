@@ -1,6 +1,7 @@
 mod accepted;
 mod others;
-mod print;
+mod print_expressions;
+mod print_statements;
 mod refused;
 
 use crate::parser::parse_script;

@@ -1,7 +1,8 @@
 //! Scripts that are read, with their trees.
 
 use super::parsed;
-use super::print::{Out, stmts};
+use super::print_expressions::Out;
+use super::print_statements::stmts;
 use js_units::NoMemory;
 use std::alloc::Global;
 use std::test::Fail;
