@@ -155,6 +155,7 @@ pub record IsAnswered (words : List Name) (seen : Seen) (number : ℕ) (text : L
   pub bounds_is : IsWhole (seen.held files.1) bounds
   pub script_fits : length script ≤ max_file
   pub bounds_fits : length bounds ≤ max_file
+  pub last : seen.last ≡ Some (record { name = files.1; most = max_file; took = length bounds; failed = false })
   pub faults : seen.now ≡ seen.before
   pub answer : ListAnswer script bounds number text
 

@@ -1,6 +1,6 @@
 //! What is answered, before anything is written.
 
-ghost use Rattle.std.specs.Prelude.{◌≡◌, ◌++◌, ◌≤◌, ℕ, length, codes, decimal, IfOk, OnOk};
+ghost use Rattle.std.specs.Prelude.{◌≡◌, ◌++◌, ◌≤◌, ℕ, None, length, codes, decimal, IfOk, OnOk};
 ghost use Rattle.std.specs.Option.{option_map};
 ghost use Rattle.js_units.specs.Quoted.{quoted};
 ghost use Rattle.expose.specs.TopCall.{listed_files, names, seen_by, IsDecided, max_file, refusal_text, ListAnswer};
@@ -137,7 +137,8 @@ pub fn decide<F: Files>(
     words: &[Vec<u8>],
     files: &mut F,
 ) -> Result<Decided, NoMemory>
-    ensures { IfOk result (λ d. IsDecided (names words.now) (seen_by (F.held files.old) (F.last files.new) (F.faults files.old) (F.faults files.new)) d.number d.text.items) }
+    ensures decided { IfOk result (λ d. IsDecided (names words.now) (seen_by (F.held files.old) (F.last files.new) (F.faults files.old) (F.faults files.new)) d.number d.text.items) }
+    ensures unread { listed_files (names words.now) ≡ None → (F.last files.new ≡ F.last files.old) × (F.faults files.new ≡ F.faults files.old) }
 {
     let (script, bounds) = match listed_files(words) {
         Some(names) => names,

@@ -29,14 +29,19 @@ pub fn run<R: Threads + Sync, F: Files, K: Sink>(
 ) -> Status
     // Want of memory writes nothing.
     ensures no_memory { result.number ≡ 7 → Keeps (K.written out.old) (K.written out.new) }
-    // A fault of the sink takes the place of what was decided, a proper front of which was written.
+    // A fault of the sink takes the place of what was decided, a proper front of which was written; and where the sink
+    // failed, nothing else comes.
     ensures write_fault { result.number ≡ 4 → IsWriteFault (names words.now) (seen_by (F.held files.old) (F.last files.new) (F.faults files.old) (F.faults files.new)) (K.written out.old) (K.written out.new) (K.faults out.old) (K.faults out.new) }
+    ensures write_fault_only { K.faults out.old < K.faults out.new → result.number ≡ 4 }
     // Any other status is what was decided, and its text is written.
     ensures decided { result.number ≢ 7 → result.number ≢ 4 → Writes (λ text. IsDecided (names words.now) (seen_by (F.held files.old) (F.last files.new) (F.faults files.old) (F.faults files.new)) result.number text) (K.written out.old) (K.written out.new) }
 
     // The usage line comes exactly where the words are no form.
     ensures usage { result.number ≡ 2 → (listed_files (names words.now) ≡ None) × Appends (K.written out.old) (K.written out.new) usage }
     ensures usage_only { listed_files (names words.now) ≡ None → result.number ≢ 7 → result.number ≢ 4 → result.number ≡ 2 }
+
+    // Nothing is asked of the files then.
+    ensures usage_unread { listed_files (names words.now) ≡ None → (F.last files.new ≡ F.last files.old) × (F.faults files.new ≡ F.faults files.old) }
 
     // A read fault comes only where the count of faults rose, in the last load; and where it rose, nothing else comes.
     ensures read_fault { result.number ≡ 3 → Writes (λ text. IsReadFault (names words.now) (seen_by (F.held files.old) (F.last files.new) (F.faults files.old) (F.faults files.new)) result.number text) (K.written out.old) (K.written out.new) }
