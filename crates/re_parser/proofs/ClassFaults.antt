@@ -1,5 +1,5 @@
 -- Where a class stops.
-use Rattle.std.proofs.Common.{◌≡◌, ℕ, Bool, true, false, cond, List, [], ◌∷◌, ◌++◌, length, Option, Some, None, refl, sym, ap, subst, ◌∙◌, append_assoc, arith, inl}
+use Rattle.std.proofs.Common.{◌≡◌, ℕ, Bool, true, false, cond, List, [], ◌∷◌, ◌++◌, length, Option, Some, None, refl, sym, ap, subst, ◌∙◌, append_assoc, arith, inl, inr}
 use Rattle.std.specs.Prelude.{◌==◌, not, nat_le, drop}
 use Rattle.std.proofs.lemmas.Bool.{and_parts, eqb-true}
 use Rattle.re_parser.specs.Characters.{is_digit}
@@ -49,7 +49,7 @@ one_more = record {
 }
 
 end_syntax : IsSyntax (InsideGo []) (InsideStop []) NoMark [] []
-end_syntax = record { before = no_more; there = λ u behind d. absurd cc; reason = inl (128, omega arith, one_more) }
+end_syntax = record { before = no_more; there = λ u behind d. absurd cc; reason = inl (128, omega arith, one_more, inl refl) }
 
 -- what no member begins with
 first_none : (u : ℕ) (us : List ℕ) → member_at (u ∷ us) ≡ None → starts is_close (u ∷ us) ≡ false → (u ≡ 92) × (escaped_member_at us ≡ None)
@@ -84,7 +84,7 @@ behind_hyphen left x end s h = record {
   rest = end;
   parts = s.is ∙ sym (append_assoc s.part (45 ∷ []) end);
   count = refl;
-  is = record { before = start_goes left x end s; there = h; reason = inl (high_unit x, high_outside x, high_goes left x end s) };
+  is = record { before = start_goes left x end s; there = h; reason = inl (high_unit x, high_outside x, high_goes left x end s, inr (s.part, refl)) };
 }
 
 none_end : (left : List ℕ) (x : Member) (end : List ℕ) → Start left x end → member_at end ≡ None → starts is_close end ≡ false → Of left (member_fault end)

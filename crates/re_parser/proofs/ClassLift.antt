@@ -20,7 +20,7 @@ use Rattle.re_parser.proofs.Agreeing.{agree_first}
 use Rattle.re_parser.proofs.Goings.{closers, closers_none, closed_node, reader_closes, quantified_rest}
 use Rattle.re_parser.proofs.Steps.{class_same, class_stuck, class_node}
 use Rattle.re_parser.proofs.Firsts.{piece_first}
-use Rattle.re_parser.proofs.Lifts.{lift_escape}
+use Rattle.re_parser.proofs.Lifts.{lift_escape, lift_null}
 
 -- a class begins with `[` or `[^`
 record Opening (units : List ℕ) (negated : Bool) (inside : List ℕ) : Type 0 where
@@ -121,7 +121,7 @@ syntax_on r units pre inside front rest l e s = record {
   before = l.goes front (fits_front inside front rest e) s.before;
   there = λ u behind d. behind_it (StopsAt r units) pre front (u ∷ []) (l.stops (front ++ u ∷ []) (fits_next inside front rest u behind e d) (s.there u behind d));
   reason = elim s.reason [
-    | inl f ↦ inl (f.0, f.1, behind_it (GoesOn r units) pre front (f.0 ∷ []) (l.goes (front ++ f.0 ∷ []) (fits_other inside front rest f.0 [] e (ne_eqb f.0 94 (λ k. let h = f.1 in omega arith))) f.2))
+    | inl f ↦ inl (f.0, f.1, behind_it (GoesOn r units) pre front (f.0 ∷ []) (l.goes (front ++ f.0 ∷ []) (fits_other inside front rest f.0 [] e (ne_eqb f.0 94 (λ k. let h = f.1 in omega arith))) f.2), lift_null (91 ∷ pre) front rest f.3)
     | inr (inl d) ↦ absurd d
     | inr (inr w) ↦ inr (inr (lift_escape (91 ∷ pre) front rest w))
   ];

@@ -1,9 +1,10 @@
 -- What goes on from every reader: it may be closed.
-use Rattle.std.proofs.Common.{◌≡◌, ℕ, ◌+◌, true, List, [], ◌∷◌, ◌++◌, length, Option, Some, None, refl, sym, ap, subst, arith, inl}
+use Rattle.std.proofs.Common.{◌≡◌, ℕ, ◌+◌, true, false, List, [], ◌∷◌, ◌++◌, length, Option, Some, None, refl, sym, ap, subst, arith, inl}
 use Rattle.re_ast.specs.declared.patterns.Node.{Node}
 use Rattle.re_ast.specs.declared.patterns.Node.TheVariants as node
 use Rattle.re_parser.specs.Agreement.{Agree}
 use Rattle.re_parser.specs.Characters.{is_digit}
+use Rattle.re_parser.specs.Escapes.{starts}
 use Rattle.re_parser.specs.Quantifiers.{quantifier_at}
 use Rattle.re_parser.specs.Pieces.{piece_at, plain_at}
 use Rattle.re_parser.specs.Grammar.{Begins, seq_of, alt_of, atom_node, quantified, closed}
@@ -111,5 +112,5 @@ finished_on r units = record {
 }
 
 -- units of which the first is refused
-pub refused_here : (r : Reader) (units : List ℕ) → ((u : ℕ) (behind : List ℕ) → units ≡ u ∷ behind → StopsAt r units (u ∷ [])) → IsSyntax (GoesOn r units) (StopsAt r units) (IsMarkDue (StopsAt r units)) [] units
-refused_here r units h = record { before = closes_on r units; there = h; reason = inl (128, omega arith, finished_on r units) }
+pub refused_here : (r : Reader) (units : List ℕ) → starts is_digit units ≡ false → ((u : ℕ) (behind : List ℕ) → units ≡ u ∷ behind → StopsAt r units (u ∷ [])) → IsSyntax (GoesOn r units) (StopsAt r units) (IsMarkDue (StopsAt r units)) [] units
+refused_here r units n h = record { before = closes_on r units; there = h; reason = inl (128, omega arith, finished_on r units, inl n) }

@@ -5,7 +5,7 @@ use Rattle.std.proofs.lemmas.List.{length-append}
 use Rattle.re_ast.specs.declared.patterns.Node.{Node}
 use Rattle.re_parser.specs.Agreement.{Agree}
 use Rattle.re_parser.specs.Grammar.{HasShape, alt_of}
-use Rattle.re_parser.specs.Places.{Viable, Barren, IsSyntax, IsBadEscape, IsTenthGroup, IsFirst, IsMarkDue, IsWithinEscape, IsUnbound, IsAt, IsRefusedAt}
+use Rattle.re_parser.specs.Places.{Viable, Barren, IsSyntax, IsBadEscape, IsTenthGroup, IsFirst, IsMarkDue, IsWithinEscape, EndsIn, NoNull, IsUnbound, IsAt, IsRefusedAt}
 use Rattle.re_parser.specs.Answers.{IsRefusal}
 use Rattle.re_parser.specs.Reading.{Left, Same, GoesOn, StopsAt, IsLeft, IsStep, FaultOf, start}
 use Rattle.re_parser.specs.declared.reader.Reader.{Reader}
@@ -30,6 +30,13 @@ lift_escape pre front rest w = record {
   later = w.later;
 }
 
+ends_behind : (unit : ℕ) (pre front : List ℕ) → EndsIn unit front → EndsIn unit (pre ++ front)
+ends_behind unit pre front e = (pre ++ e.0, ap (λ (x : List ℕ). pre ++ x) e.1 ∙ sym (append_assoc pre e.0 (unit ∷ [])))
+
+pub lift_null : (pre front rest : List ℕ) → NoNull front rest → NoNull (pre ++ front) rest
+lift_null pre front rest (inl n) = inl n
+lift_null pre front rest (inr e) = inr (ends_behind 45 pre front e)
+
 behind_it : (P : List ℕ → Type 0) (pre front more : List ℕ) → P (pre ++ (front ++ more)) → P ((pre ++ front) ++ more)
 behind_it P pre front more h = subst P (sym (append_assoc pre front more)) h
 
@@ -43,7 +50,7 @@ lift_syntax G S D H T E pre front rest l s = record {
   before = l.goes front s.before;
   there = λ u behind d. behind_it T pre front (u ∷ []) (l.stops (front ++ u ∷ []) (s.there u behind d));
   reason = elim s.reason [
-    | inl f ↦ inl (f.0, f.1, behind_it H pre front (f.0 ∷ []) (l.goes (front ++ f.0 ∷ []) f.2))
+    | inl f ↦ inl (f.0, f.1, behind_it H pre front (f.0 ∷ []) (l.goes (front ++ f.0 ∷ []) f.2), lift_null pre front rest f.3)
     | inr (inl d) ↦ inr (inl (l.due front d))
     | inr (inr w) ↦ inr (inr (lift_escape pre front rest w))
   ];
@@ -148,7 +155,7 @@ refused_at X body _ _ h l = absurd h
 
 -- a reader at the end of the units
 end_fault : (body : List ℕ) (r : Reader) → IsStep start body (r, []) → FaultOf Viable Barren (IsMarkDue Barren) body (fault.Syntax 0)
-end_fault body r h = body_fault body r [] h (fault.Syntax 0) (record { front = []; rest = []; parts = refl; count = refl; is = refused_here r [] (λ u behind d. absurd cc) })
+end_fault body r h = body_fault body r [] h (fault.Syntax 0) (record { front = []; rest = []; parts = refl; count = refl; is = refused_here r [] refl (λ u behind d. absurd cc) })
 
 pub ended_syntax : (X : Type 0) (body : List ℕ) (r : Reader) (at : ℕ) → IsStep start body (r, []) → at ≡ length body → IsRefusedAt {X = X} body (Err (refusal.Syntax at))
 ended_syntax X body r at h a = at_left body 0 at (IsSyntax Viable Barren (IsMarkDue Barren)) (omega (arith, a)) (end_fault body r h)

@@ -128,6 +128,10 @@ brace_agree : (us more : List ℕ) → Agree (125 ∷ us) (125 ∷ more)
 unfolding is_digit
 brace_agree us more = agree_first 125 us more refl refl
 
+brace_digit : (us : List ℕ) → starts is_digit (125 ∷ us) ≡ false
+unfolding is_digit
+brace_digit us = refl
+
 brace_stuck : (r : Reader) (us : List ℕ) (x : Braces × List ℕ) → braces_at us ≡ Some x → Stuck r (123 ∷ us)
 unfolding piece_at
 brace_stuck r us x e = piece_stuck r 123 us (ap (λ (o : Option (Braces × List ℕ)). brace_piece o us) e)
@@ -152,6 +156,7 @@ brace_syntax r inner t b k again =
           node = on.node;
           leads = subst (λ (x : List ℕ). Left (None, r.groups, on.node) r x) (sym (append_assoc (123 ∷ inner) (128 ∷ []) (closers r.frames))) on.leads;
         },
+        inl (brace_digit t),
       );
     }
 
@@ -210,10 +215,16 @@ mark_stuck r u more (inl e) = subst (λ (x : ℕ). Stuck r (x ∷ more)) (sym e)
 mark_stuck r u more (inr (inl e)) = subst (λ (x : ℕ). Stuck r (x ∷ more)) (sym e) (piece_stuck r 43 more refl)
 mark_stuck r u more (inr (inr e)) = subst (λ (x : ℕ). Stuck r (x ∷ more)) (sym e) (piece_stuck r 63 more refl)
 
+mark_digit : (u : ℕ) (us : List ℕ) → (u ≡ 42) ⊎ ((u ≡ 43) ⊎ (u ≡ 63)) → starts is_digit (u ∷ us) ≡ false
+unfolding is_digit
+mark_digit u us (inl e) = subst (λ (x : ℕ). starts is_digit (x ∷ us) ≡ false) (sym e) refl
+mark_digit u us (inr (inl e)) = subst (λ (x : ℕ). starts is_digit (x ∷ us) ≡ false) (sym e) refl
+mark_digit u us (inr (inr e)) = subst (λ (x : ℕ). starts is_digit (x ∷ us) ≡ false) (sym e) refl
+
 mark_here : (r : Reader) (u : ℕ) (us : List ℕ) → plain_at u us ≡ None → IsSyntax (GoesOn r (u ∷ us)) (StopsAt r (u ∷ us)) (IsMarkDue (StopsAt r (u ∷ us))) [] (u ∷ us)
 mark_here r u us e =
     let q = quantifies u us e in
-    refused_here r (u ∷ us) (λ v behind d more. let same : u ≡ v = cc in subst (λ (x : ℕ). Agree (u ∷ us) (x ∷ more) × Stuck r (x ∷ more)) same (mark_agree u us more q, mark_stuck r u more q))
+    refused_here r (u ∷ us) (mark_digit u us q) (λ v behind d more. let same : u ≡ v = cc in subst (λ (x : ℕ). Agree (u ∷ us) (x ∷ more) × Stuck r (x ∷ more)) same (mark_agree u us more q, mark_stuck r u more q))
 
 class_some : (us : List ℕ) → class_at us ≡ None → ⊥
 unfolding class_at

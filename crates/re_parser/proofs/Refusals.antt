@@ -119,8 +119,12 @@ deep_stuck r more h = by (group_at more) refl
     by None e = piece_stuck r 40 more e
     by (Some x) e = deep x.0 x.1 e (group_open more x.0 x.1 e)
 
+open_digit : (us : List ℕ) → starts is_digit (40 ∷ us) ≡ false
+unfolding is_digit
+open_digit us = refl
+
 pub deep_syntax : (r : Reader) (us : List ℕ) → 100 ≤ length r.frames → IsSyntax (GoesOn r (40 ∷ us)) (StopsAt r (40 ∷ us)) (IsMarkDue (StopsAt r (40 ∷ us))) [] (40 ∷ us)
-deep_syntax r us h = refused_here r (40 ∷ us) (λ u behind d more. let same : u ≡ 40 = cc in subst (λ (x : ℕ). Agree (40 ∷ us) (x ∷ more) × Stuck r (x ∷ more)) (sym same) (parenthesis_agree us more, deep_stuck r more h))
+deep_syntax r us h = refused_here r (40 ∷ us) (open_digit us) (λ u behind d more. let same : u ≡ 40 = cc in subst (λ (x : ℕ). Agree (40 ∷ us) (x ∷ more) × Stuck r (x ∷ more)) (sym same) (parenthesis_agree us more, deep_stuck r more h))
 
 capture_begins : (more : List ℕ) → starts is_question more ≡ false → Begins (40 ∷ more) (piece.Open group.Capturing) more
 unfolding piece_at
@@ -172,8 +176,12 @@ close_agree : (us more : List ℕ) → Agree (41 ∷ us) (41 ∷ more)
 unfolding is_digit
 close_agree us more = agree_first 41 us more refl refl
 
+close_digit : (us : List ℕ) → starts is_digit (41 ∷ us) ≡ false
+unfolding is_digit
+close_digit us = refl
+
 close_here : (r : Reader) (us : List ℕ) (fs : List Frame) → fs ≡ [] → r.frames ≡ fs → IsSyntax (GoesOn r (41 ∷ us)) (StopsAt r (41 ∷ us)) (IsMarkDue (StopsAt r (41 ∷ us))) [] (41 ∷ us)
-close_here r us fs e f = refused_here r (41 ∷ us) (λ u behind d more. let same : u ≡ 41 = cc in subst (λ (x : ℕ). Agree (41 ∷ us) (x ∷ more) × Stuck r (x ∷ more)) (sym same) (close_agree us more, none r.frames (f ∙ e) more))
+close_here r us fs e f = refused_here r (41 ∷ us) (close_digit us) (λ u behind d more. let same : u ≡ 41 = cc in subst (λ (x : ℕ). Agree (41 ∷ us) (x ∷ more) × Stuck r (x ∷ more)) (sym same) (close_agree us more, none r.frames (f ∙ e) more))
   where
     none : (gs : List Frame) → gs ≡ [] → (more : List ℕ) → Stuck (record r { frames = gs }) (41 ∷ more)
     none [] d more = close_stuck r (41 ∷ more) more (close_begins more)

@@ -1,6 +1,7 @@
 -- Where a body is refused, and why (this project's own). Of `Goes` and `Stops` the one says that some body that has a shape begins with these units, and the other that none does; `Due` says that the mark of a group is due behind them.
 use Rattle.std.specs.Prelude.{◌≡◌, ◌≤◌, ◌<◌, ◌⊎◌, ℕ, ◌==◌, ◌||◌, Bool, false, List, [], ◌∷◌, ◌++◌, length, Some, None, Result, Err}
 use Rattle.re_ast.specs.declared.patterns.Node.{Node}
+use Rattle.re_parser.specs.Characters.{is_digit}
 use Rattle.re_parser.specs.Escapes.{starts, escaped_member_at}
 use Rattle.re_parser.specs.Pieces.{escape_at}
 use Rattle.re_parser.specs.Quantifiers.{digits_from}
@@ -17,9 +18,16 @@ Viable units = (more : List ℕ) × HasShape (units ++ more)
 abbrev pub Barren : List ℕ → Type 0
 Barren units = Viable units → ⊥
 
--- a unit outside of ASCII goes on: neither an escape nor `(?` is unfinished
-abbrev pub IsFinished : (List ℕ → Type 0) → List ℕ → Type 0
-IsFinished Goes front = (u : ℕ) × (128 ≤ u) × Goes (front ++ u ∷ [])
+abbrev pub EndsIn : ℕ → List ℕ → Type 0
+EndsIn unit front = (before : List ℕ) × (front ≡ before ++ unit ∷ [])
+
+-- `\0` with a digit behind it is an escape that isn't listed. So that digit is no place: no digit stands there, unless as the end of a range, behind a `-`.
+abbrev pub NoNull : List ℕ → List ℕ → Type 0
+NoNull front rest = (starts is_digit rest ≡ false) ⊎ EndsIn 45 front
+
+-- a unit outside of ASCII goes on: neither an escape nor `(?` is unfinished, and no `\0` ends in a digit
+abbrev pub IsFinished : (List ℕ → Type 0) → List ℕ → List ℕ → Type 0
+IsFinished Goes front rest = (u : ℕ) × (128 ≤ u) × Goes (front ++ u ∷ []) × NoNull front rest
 
 abbrev pub is_mark : ℕ → Bool
 is_mark u = u == 58 || u == 61 || u == 33
@@ -42,7 +50,7 @@ pub record IsWithinEscape (front rest : List ℕ) : Type 0 where
 pub record IsSyntax (Goes Stops Due : List ℕ → Type 0) (front rest : List ℕ) : Type 0 where
   pub before : Goes front
   pub there : (u : ℕ) (behind : List ℕ) → rest ≡ u ∷ behind → Stops (front ++ u ∷ [])
-  pub reason : IsFinished Goes front ⊎ (Due front ⊎ IsWithinEscape front rest)
+  pub reason : IsFinished Goes front rest ⊎ (Due front ⊎ IsWithinEscape front rest)
 
 -- Behind the front stands a `\` that begins an escape, since behind it no unit outside of ASCII may stand; and the escape isn't listed: it is none at all, or none of a class where the first unit of one of those is due.
 pub record IsBadEscape (Goes Stops : List ℕ → Type 0) (front behind : List ℕ) : Type 0 where
