@@ -1,16 +1,33 @@
 -- What one token more says of all that is read.
-use Rattle.std.proofs.Common.{◌≡◌, ℕ, Bool, List, sym, ap, subst, ◌∙◌}
-use Rattle.std.specs.Prelude.{Ok, Err}
+use Rattle.std.proofs.Common.{◌≡◌, ℕ, Bool, List, refl, sym, ap, subst, ◌∙◌}
+use Rattle.std.specs.Prelude.{Option, Result, Ok, Err}
 use Rattle.js_grammar.specs.declared.token.Token.{Token}
 use Rattle.js_lexer.specs.declared.token.Goal.{Goal}
 use Rattle.js_lexer.specs.Tokens.{IsNext, IsNone}
+use Rattle.js_operands.specs.Answers.{Gives}
+use Rattle.js_operands.specs.declared.stop.Stop.{Stop}
+use Rattle.js_operands.specs.declared.stop.Stop.TheVariants as stop
 use Rattle.js_reading.specs.declared.mode.Parser.{Parser}
 use Rattle.js_parser.specs.Tokens.{IsToken, goal_of}
-use Rattle.js_parser.specs.Outcomes.{Outcome, IsOutcome, outcome_none, outcome_over, outcome_refused, outcome_more, is_wide, taken, over}
+use Rattle.js_parser.specs.Outcomes.{Outcome, IsOutcome, outcome_none, outcome_over, outcome_refused, outcome_more, is_wide, refusal_of, unless_refused, judged, taken_by, taken, over}
 use Rattle.js_parser.specs.Finding.{IsFound, IsTaken, IsOver}
 use Rattle.js_parser.specs.Answers.{Answers, Reads, LeadsOn}
 use Rattle.js_parser.specs.declared.refusal.ScriptRefusal.{ScriptRefusal}
 use Rattle.js_parser.specs.declared.refusal.ScriptRefusal.TheVariants as refusal
+
+-- ---- one token
+
+answers_itself : (r : Result Parser ScriptRefusal) → Answers r r
+answers_itself (Ok q) = refl
+answers_itself (Err refusal.NoMemory) = tt
+answers_itself (Err r) = refl
+
+pub judged_answers : (wide : Bool) (at : ℕ) (stepped : Result Parser Stop) (read : Option Parser) → Gives (λ x. x) stepped read → Answers (judged wide at stepped) (taken_by wide at read)
+judged_answers wide at (Ok q) read e = subst (λ (o : Option Parser). Answers (unless_refused (refusal_of wide at q) q) (taken_by wide at o)) (sym e) (answers_itself (unless_refused (refusal_of wide at q) q))
+judged_answers wide at (Err stop.Syntax) read e = subst (λ (o : Option Parser). Answers {X = Parser} (Err (refusal.Syntax at)) (taken_by wide at o)) (sym e) refl
+judged_answers wide at (Err stop.NoMemory) read e = tt
+
+-- ---- the tokens from a place on
 
 token_at : (text : List ℕ) (at : ℕ) (p : Parser) (goal : Goal) (token : Token) (wide : Bool) (end bytes : ℕ) → goal ≡ goal_of p.mode → (h : IsTaken text at goal token wide end bytes) → IsToken text at (goal_of p.mode) h.t token
 token_at text at p goal token wide end bytes e h = subst (λ (x : Goal). IsToken text at x h.t token) e h.token_is

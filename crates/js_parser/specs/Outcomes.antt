@@ -1,6 +1,10 @@
 -- This project's own: what reading a text answers, token by token from a place and a state on.
 use Rattle.std.specs.Prelude.{◌≡◌, ℕ, nat_lt, Bool, true, false, cond, List, Option, Some, None, Result, Ok, Err}
+use Rattle.js_units.specs.declared.decoding.Utf8Refusal.{Utf8Refusal}
+use Rattle.js_units.specs.declared.decoding.Utf8Refusal.TheVariants as decoding
 use Rattle.js_ast.specs.declared.statement.Stmt.{Stmt}
+use Rattle.js_operands.specs.declared.stop.Stop.{Stop}
+use Rattle.js_operands.specs.declared.stop.Stop.TheVariants as stop
 use Rattle.js_grammar.specs.declared.token.Token.{Token}
 use Rattle.js_lexer.specs.Tokens.{IsNext, IsNone}
 use Rattle.js_lexer.specs.declared.token.Token.{Token as Lexed}
@@ -21,6 +25,16 @@ abbrev pub is_wide : LexedKind → Bool
 is_wide lexed.WideNumber = true
 is_wide _ = false
 
+-- the refusal of bytes that give no text
+abbrev pub undecoded : Utf8Refusal → ScriptRefusal
+undecoded (decoding.Bad at) = refusal.Utf8 at
+undecoded decoding.NoMemory = refusal.NoMemory
+
+-- the refusal where a step isn't taken
+abbrev pub stopped : Stop → ℕ → ScriptRefusal
+stopped stop.Syntax at = refusal.Syntax at
+stopped stop.NoMemory at = refusal.NoMemory
+
 -- the refusal at a token behind which this state is
 abbrev pub refusal_of : Bool → ℕ → Parser → Option ScriptRefusal
 refusal_of wide at q = cond wide (Some (refusal.WideNumber at)) (cond (nat_lt 200 (nesting q)) (Some (refusal.TooDeep at)) None)
@@ -28,6 +42,11 @@ refusal_of wide at q = cond wide (Some (refusal.WideNumber at)) (cond (nat_lt 20
 abbrev pub unless_refused : Option ScriptRefusal → Parser → Result Parser ScriptRefusal
 unless_refused None q = Ok q
 unless_refused (Some e) q = Err e
+
+-- what the code's step at a token comes to
+abbrev pub judged : Bool → ℕ → Result Parser Stop → Result Parser ScriptRefusal
+judged wide at (Ok q) = unless_refused (refusal_of wide at q) q
+judged wide at (Err s) = Err (stopped s at)
 
 -- the refusal at a token that comes first, or the state behind it
 abbrev pub taken_by : Bool → ℕ → Option Parser → Result Parser ScriptRefusal

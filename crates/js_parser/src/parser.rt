@@ -9,10 +9,10 @@ ghost use Rattle.js_parser.specs.Refusals.{IsRefused};
 
 use crate::laws::readings;
 use crate::reading::read;
-use crate::refusal::ScriptRefusal;
+use crate::refusal::{ScriptRefusal, undecoded};
 use js_ast::{Script, Stmt};
 use js_early::early_name;
-use js_units::{Utf8Refusal, from_utf8};
+use js_units::from_utf8;
 use sqlite_items::Items;
 use std::alloc::Global;
 
@@ -48,7 +48,6 @@ pub fn parse_script(alloc: Global, bytes: &[u8]) -> Result<Script, ScriptRefusal
             Ok(body) => named(alloc, body),
             Err(refusal) => Err(refusal),
         },
-        Err(Utf8Refusal::Bad { at }) => Err(ScriptRefusal::Utf8 { at }),
-        Err(Utf8Refusal::NoMemory) => Err(ScriptRefusal::NoMemory),
+        Err(refusal) => Err(undecoded(refusal)),
     }
 }

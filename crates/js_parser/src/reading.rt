@@ -5,12 +5,12 @@ ghost use Rattle.js_units.specs.Utf8.{utf8_size};
 ghost use Rattle.js_operands.specs.Answers.{Makes};
 ghost use Rattle.js_reading.specs.Reading.{start};
 ghost use Rattle.js_parser.specs.Places.{byte_at};
-ghost use Rattle.js_parser.specs.Outcomes.{taken, taken_by, refusal_of, over};
+ghost use Rattle.js_parser.specs.Outcomes.{taken, judged, unless_refused, refusal_of, over};
 ghost use Rattle.js_parser.specs.Answers.{Answers, Advances, Reads};
 
 use crate::finding::{Found, next_found};
 use crate::nesting::is_too_deep;
-use crate::refusal::ScriptRefusal;
+use crate::refusal::{ScriptRefusal, stopped};
 use crate::tokens::goal_of;
 use js_ast::Stmt;
 use js_grammar::Token;
@@ -63,7 +63,7 @@ fn refusal_of(is_wide: bool, at: usize, parser: &Parser) -> Option<ScriptRefusal
 }
 
 fn unless_refused(is_wide: bool, at: usize, parser: Parser) -> Result<Parser, ScriptRefusal>
-    ensures { Answers result (taken_by is_wide at (Some parser)) }
+    ensures { result ≡ unless_refused (refusal_of is_wide at parser) parser }
 {
     match refusal_of(is_wide, at, &parser) {
         None => Ok(parser),
@@ -71,6 +71,16 @@ fn unless_refused(is_wide: bool, at: usize, parser: Parser) -> Result<Parser, Sc
             discard(parser);
             Err(refusal)
         }
+    }
+}
+
+/// The refusal that comes first at a token: that of its step, then that of the token itself.
+fn judged(is_wide: bool, at: usize, stepped: Result<Parser, Stop>) -> Result<Parser, ScriptRefusal>
+    ensures { result ≡ judged is_wide at stepped }
+{
+    match stepped {
+        Ok(parser) => unless_refused(is_wide, at, parser),
+        Err(stop) => Err(stopped(stop, at)),
     }
 }
 
@@ -84,11 +94,7 @@ fn taken(
     ensures { Answers result (taken is_wide parser token) }
 {
     let at = token.start as usize;
-    match step(alloc, parser, token) {
-        Ok(parser) => unless_refused(is_wide, at, parser),
-        Err(Stop::Syntax) => Err(ScriptRefusal::Syntax { at }),
-        Err(Stop::NoMemory) => Err(ScriptRefusal::NoMemory),
-    }
+    judged(is_wide, at, step(alloc, parser, token))
 }
 
 /// The script, if it may end here.

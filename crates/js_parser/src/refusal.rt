@@ -1,9 +1,11 @@
 //! Why no script is read.
 
 ghost use Rattle.std.specs.Prelude.{◌≡◌};
+ghost use Rattle.js_parser.specs.Outcomes.{stopped, undecoded};
 ghost use Rattle.js_parser.specs.declared.refusal.ScriptRefusal.TheVariants as refusal;
 
-use js_units::NoMemory;
+use js_operands::Stop;
+use js_units::{NoMemory, Utf8Refusal};
 use std::alloc::AllocError;
 
 /// Why no script is read. Each place is a byte offset.
@@ -35,5 +37,25 @@ impl From<AllocError> for ScriptRefusal {
 
     fn from(_: AllocError) -> ScriptRefusal {
         ScriptRefusal::NoMemory
+    }
+}
+
+/// Why a step isn't taken at a place.
+pub fn stopped(stop: Stop, at: usize) -> ScriptRefusal
+    ensures { result ≡ stopped stop at }
+{
+    match stop {
+        Stop::Syntax => ScriptRefusal::Syntax { at },
+        Stop::NoMemory => ScriptRefusal::NoMemory,
+    }
+}
+
+/// Why bytes give no text.
+pub fn undecoded(refusal: Utf8Refusal) -> ScriptRefusal
+    ensures { result ≡ undecoded refusal }
+{
+    match refusal {
+        Utf8Refusal::Bad { at } => ScriptRefusal::Utf8 { at },
+        Utf8Refusal::NoMemory => ScriptRefusal::NoMemory,
     }
 }

@@ -12,7 +12,7 @@ pub returns-in-Ok-read-clause-unique : goal.returns-in-Ok-read-clause-unique
 returns-in-Ok-read-clause-unique c = unique c.readings.ensures.read c.readings.ensures.one c.args.bytes.now
 
 pub returns-in-Ok-clause-only : goal.returns-in-Ok-clause-only
-returns-in-Ok-clause-only c = refused_only c.readings.ensures.read c.readings.ensures.one _ _ _ c.in-Ok.ensures.decodes.1 c.in-Err.ensures
+returns-in-Ok-clause-only c = refused_only c.readings.ensures.read c.readings.ensures.one _ _ _ c.in-Ok.ensures.decodes.1 c.in-Err-read.ensures
 
 pub returns-in-Ok-clause-unique : goal.returns-in-Ok-clause-unique
 returns-in-Ok-clause-unique c = unique c.readings.ensures.read c.readings.ensures.one c.args.bytes.now
