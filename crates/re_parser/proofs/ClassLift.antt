@@ -130,7 +130,7 @@ syntax_on r units pre inside front rest l e s = record {
 bad_on : (r : Reader) (units pre inside front rest behind : List ℕ) → Lift r units pre inside → inside ≡ front ++ rest → IsBadEscape MembersGo MembersStop front behind → IsBadEscape (GoesOn r units) (StopsAt r units) (91 ∷ pre ++ front) behind
 bad_on r units pre inside front rest behind l e b = record {
   begins = behind_it (GoesOn r units) pre front (92 ∷ []) (l.goes (front ++ 92 ∷ []) (fits_other inside front rest 92 [] e refl) b.begins);
-  escapes = λ u h. behind_it (StopsAt r units) pre front (92 ∷ u ∷ []) (l.stops (front ++ 92 ∷ u ∷ []) (fits_more inside front rest 92 (u ∷ []) e refl) (b.escapes u h));
+  escapes = λ us n. behind_it (StopsAt r units) pre front (92 ∷ us) (l.stops (front ++ 92 ∷ us) (fits_more inside front rest 92 us e refl) (b.escapes us n));
   unlisted = elim b.unlisted [
     | inl k ↦ inl k
     | inr k ↦ inr (k.0, λ u more d. behind_it (StopsAt r units) pre front (92 ∷ u ∷ []) (l.stops (front ++ 92 ∷ u ∷ []) (fits_more inside front rest 92 (u ∷ []) e refl) (k.1 u more d)))

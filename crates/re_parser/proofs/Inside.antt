@@ -199,21 +199,21 @@ unlisted_of (u ∷ us) e = by (u == 98) (u == 66) (nat_le 49 u && nat_le u 57) (
 -- in front of a `\` where a member is due
 pub record Context (left front : List ℕ) : Type 0 where
   pub goes : InsideGo left (front ++ 92 ∷ [])
-  pub stops : (u : ℕ) → ((vs : List ℕ) → escaped_member_at (u ∷ vs) ≡ None) → InsideStop left (front ++ 92 ∷ u ∷ [])
+  pub stops : (units : List ℕ) → ((more : List ℕ) → escaped_member_at (units ++ more) ≡ None) → InsideStop left (front ++ 92 ∷ units)
 
 pub bad_member : (left front us : List ℕ) → Context left front → escaped_member_at us ≡ None → IsBadEscape (InsideGo left) (InsideStop left) front us
 bad_member left front us c e = record {
   begins = c.goes;
-  escapes = λ u h. c.stops u (λ vs. outside_member u vs h);
+  escapes = λ units n. c.stops units (λ more. (n more).1);
   unlisted = elim (unlisted_of us e).either [
     | inl n ↦ inl n
-    | inr n ↦ inr (e, λ u more d. c.stops u (n u more d))
+    | inr n ↦ inr (e, λ u more d. c.stops (u ∷ []) (n u more d))
   ];
 }
 
-backslash_none : (u : ℕ) (vs : List ℕ) → escaped_member_at (u ∷ vs) ≡ None → member_at (92 ∷ u ∷ vs) ≡ None
+backslash_none : (units : List ℕ) → escaped_member_at units ≡ None → member_at (92 ∷ units) ≡ None
 unfolding member_at
-backslash_none u vs e = e
+backslash_none units e = e
 
 item_none : (us : List ℕ) → member_at us ≡ None → item_at us ≡ None
 unfolding item_at
@@ -241,12 +241,12 @@ first_context us = record {
     ranges = item_units (item.Single (member.Many escape.Digit)) ++ [];
     members = λ tail. one_item (92 ∷ 100 ∷ 93 ∷ tail) (item.Single (member.Many escape.Digit)) tail (digit_item tail);
   };
-  stops = λ u h more. (inside_backslash us (u ∷ more), none_members (92 ∷ u ∷ more) (item_none (92 ∷ u ∷ more) (backslash_none u more (h more))) refl);
+  stops = λ ws h more. (inside_backslash us (ws ++ more), none_members (92 ∷ ws ++ more) (item_none (92 ∷ ws ++ more) (backslash_none (ws ++ more) (h more))) refl);
 }
 
 -- where the end of a range does
 pub end_context : (left : List ℕ) (x : Member) (end : List ℕ) (s : Start left x end) → Context left (s.part ++ 45 ∷ [])
 end_context left x end s = record {
   goes = subst (λ (q : List ℕ). InsideGo left q) (sym (append_assoc s.part (45 ∷ []) (92 ∷ []))) (escape_goes left x end s);
-  stops = λ u h. subst (λ (q : List ℕ). InsideStop left q) (sym (append_assoc s.part (45 ∷ []) (92 ∷ u ∷ []))) (end_stops left x end s (92 ∷ u ∷ []) (λ more. (ap (λ (o : Option (Member × List ℕ)). range_at x o) (backslash_none u more (h more)), refl)));
+  stops = λ ws h. subst (λ (q : List ℕ). InsideStop left q) (sym (append_assoc s.part (45 ∷ []) (92 ∷ ws))) (end_stops left x end s (92 ∷ ws) (λ more. (ap (λ (o : Option (Member × List ℕ)). range_at x o) (backslash_none (ws ++ more) (h more)), refl)));
 }

@@ -3,8 +3,10 @@ pub mod Backs
 pub mod ClassCuts
 pub mod ClassFaults
 pub mod ClassLift
+pub mod Counts
 pub mod Cuts
 pub mod Firsts
+pub mod Exclusive
 pub mod FlagLists
 pub mod Goings
 pub mod Inside
@@ -16,6 +18,7 @@ pub mod NoPiece
 pub mod Numbers
 pub mod Passing
 pub mod PieceCuts
+pub mod Reaches
 pub mod Refusals
 pub mod Steps
 pub mod TooLow

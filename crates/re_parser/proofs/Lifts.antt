@@ -59,7 +59,7 @@ lift_syntax G S D H T E pre front rest l s = record {
 lift_bad : (G S D H T E : List ℕ → Type 0) (pre front behind : List ℕ) → Lifts G S D H T E pre → IsBadEscape G S front behind → IsBadEscape H T (pre ++ front) behind
 lift_bad G S D H T E pre front behind l b = record {
   begins = behind_it H pre front (92 ∷ []) (l.goes (front ++ 92 ∷ []) b.begins);
-  escapes = λ u h. behind_it T pre front (92 ∷ u ∷ []) (l.stops (front ++ 92 ∷ u ∷ []) (b.escapes u h));
+  escapes = λ units n. behind_it T pre front (92 ∷ units) (l.stops (front ++ 92 ∷ units) (b.escapes units n));
   unlisted = elim b.unlisted [
     | inl e ↦ inl e
     | inr e ↦ inr (e.0, λ u more d. behind_it T pre front (92 ∷ u ∷ []) (l.stops (front ++ 92 ∷ u ∷ []) (e.1 u more d)))
@@ -111,7 +111,7 @@ body_fault body r units h e f =
     (record {
       goes = viable_from body r units h;
       stops = barren_from body r units h;
-      due = λ x d u n. behind_it Barren h.part x (u ∷ []) (barren_from body r units h (x ++ u ∷ []) (d u n));
+      due = λ x d. (ends_behind 63 h.part x d.0, λ u n. behind_it Barren h.part x (u ∷ []) (barren_from body r units h (x ++ u ∷ []) (d.1 u n)));
     })
     e f
 

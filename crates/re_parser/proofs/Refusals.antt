@@ -1,5 +1,5 @@
 -- Where a reader stops in front of a piece, or of none.
-use Rattle.std.proofs.Common.{◌≡◌, ℕ, ◌+◌, ◌<◌, ◌≤◌, Bool, true, false, cond, List, [], ◌∷◌, length, Option, Some, None, refl, sym, ap, subst, ◌∙◌, arith, inl, inr}
+use Rattle.std.proofs.Common.{◌≡◌, ℕ, ◌+◌, ◌<◌, ◌≤◌, Bool, true, false, cond, List, [], ◌∷◌, ◌++◌, length, Option, Some, None, refl, sym, ap, subst, ◌∙◌, arith, inl, inr}
 use Rattle.std.specs.Prelude.{◌==◌, ◌&&◌, nat_le, nat_lt}
 use Rattle.std.proofs.lemmas.Bool.{eqb-true, ne_eqb, le-ltb, lt-leb}
 use Rattle.re_ast.specs.declared.patterns.Node.{Node}
@@ -63,7 +63,7 @@ pub outside_character : (u : ℕ) (us : List ℕ) → 128 ≤ u → character_at
 unfolding character_at is_sign control_of
 outside_character u us h = rw (ne_eqb u 120 (λ e. omega arith), ne_eqb u 117 (λ e. omega arith), ne_eqb u 48 (λ e. omega arith), not_below u h, ne_eqb u 102 (λ e. omega arith), ne_eqb u 110 (λ e. omega arith), ne_eqb u 114 (λ e. omega arith), ne_eqb u 116 (λ e. omega arith), ne_eqb u 118 (λ e. omega arith)) refl
 
-outside_escape : (u : ℕ) (us : List ℕ) → 128 ≤ u → escape_at (u ∷ us) ≡ None
+pub outside_escape : (u : ℕ) (us : List ℕ) → 128 ≤ u → escape_at (u ∷ us) ≡ None
 unfolding escape_at class_escape_of
 outside_escape u us h = rw (ne_eqb u 98 (λ e. omega arith), ne_eqb u 66 (λ e. omega arith), not_above u h) (rw (ne_eqb u 100 (λ e. omega arith), ne_eqb u 68 (λ e. omega arith), ne_eqb u 115 (λ e. omega arith), ne_eqb u 83 (λ e. omega arith), ne_eqb u 119 (λ e. omega arith), ne_eqb u 87 (λ e. omega arith), outside_character u us h) refl)
 
@@ -74,7 +74,7 @@ backslash_stuck r us more e = piece_stuck r 92 more e
 pub bad_escape : (r : Reader) (us : List ℕ) → escape_at us ≡ None → IsBadEscape (GoesOn r (92 ∷ us)) (StopsAt r (92 ∷ us)) [] us
 bad_escape r us e = record {
   begins = record { more = 100 ∷ closers r.frames; agrees = backslash_agree (92 ∷ us) (100 ∷ closers r.frames); groups = r.groups; node = closed_node (with_digit r); leads = escape_goes r };
-  escapes = λ u h more. (backslash_agree (92 ∷ us) (u ∷ more), backslash_stuck r us (u ∷ more) (outside_escape u more h));
+  escapes = λ ws n more. (backslash_agree (92 ∷ us) (ws ++ more), backslash_stuck r us (ws ++ more) (n more).0);
   unlisted = inl e;
 }
 
@@ -103,7 +103,7 @@ pub mark_syntax : (r : Reader) (us : List ℕ) → length r.frames < 100 → mar
 mark_syntax r us h e = record {
   before = record { more = 58 ∷ 41 ∷ closers r.frames; agrees = parenthesis_agree (63 ∷ us) (63 ∷ 58 ∷ 41 ∷ closers r.frames); groups = r.groups; node = closed_node (inner r group.Plain r.groups); leads = plain_goes r h };
   there = λ u behind d more. (parenthesis_agree (63 ∷ us) (63 ∷ u ∷ more), mark_stuck r (u ∷ more) (mark_none u behind more (ap marked_group_at (sym d) ∙ e)));
-  reason = inr (inl (λ u n more. (parenthesis_agree (63 ∷ us) (63 ∷ u ∷ more), mark_stuck r (u ∷ more) (no_mark u more n))));
+  reason = inr (inl ((40 ∷ [], refl), λ u n more. (parenthesis_agree (63 ∷ us) (63 ∷ u ∷ more), mark_stuck r (u ∷ more) (no_mark u more n))));
 }
 
 -- too deep

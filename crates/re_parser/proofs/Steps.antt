@@ -60,7 +60,7 @@ atom_in total _ _ _ _ _ _ (term_group depth before units kind inside within node
 abbrev pub class_node : Bool → List (ℕ × ℕ) → Node
 class_node negated ranges = node.Class (record { ranges = ranges; negated = negated })
 
-class_in : (total : Option ℕ) (depth before : ℕ) (units : List ℕ) (n : Node) (mid : ℕ) (next : List ℕ) → IsTerm total depth before units n mid next → (negated : Bool) (inside : List ℕ) → Begins units (piece.Class negated) inside → (P : Node → ℕ → List ℕ → Type 0) → P n mid next
+pub class_in : (total : Option ℕ) (depth before : ℕ) (units : List ℕ) (n : Node) (mid : ℕ) (next : List ℕ) → IsTerm total depth before units n mid next → (negated : Bool) (inside : List ℕ) → Begins units (piece.Class negated) inside → (P : Node → ℕ → List ℕ → Type 0) → P n mid next
     → (ranges : List (ℕ × ℕ)) × (rest : List ℕ) × IsMembers inside ranges rest × P (quantified (before + 1) (class_node negated ranges) (before + 1) rest).0 before (quantified (before + 1) (class_node negated ranges) (before + 1) rest).1
 class_in total _ _ _ _ _ _ (term_assertion depth before units a rest b) c more d P p = absurd (let e = (same_piece units (piece.Assertion a) (piece.Class c) rest more b d).0 in cc)
 class_in total _ _ _ _ _ _ (term_atom depth before units a mid b h) c more d P p = absurd (let e = (same_piece units (piece.Atom a) (piece.Class c) mid more b d).0 in cc)
@@ -108,7 +108,7 @@ abbrev frames_end : Whole → List Frame → End
 frames_end w fs = Ends w fs
 
 -- the alternative goes on with a term, where a piece of one is in front
-goes_term : (w : Whole) (depth : ℕ) (fs : List Frame) (done terms : List Node) (before : ℕ) (units : List ℕ) (p : Piece) (rest : List ℕ) → Goes w.0 depth (Ends w fs) done terms before units → Begins units p rest → stops p ≡ false → Term w.0 depth (Ends w fs) done terms before units
+pub goes_term : (w : Whole) (depth : ℕ) (fs : List Frame) (done terms : List Node) (before : ℕ) (units : List ℕ) (p : Piece) (rest : List ℕ) → Goes w.0 depth (Ends w fs) done terms before units → Begins units p rest → stops p ≡ false → Term w.0 depth (Ends w fs) done terms before units
 goes_term w depth fs done terms before units p rest g b s =
     elim (goes_on w.0 depth (Ends w fs) done terms before units g) [
       | inl t ↦ t

@@ -33,12 +33,12 @@ record Again (S : List ℕ → Spot) (rest : List ℕ) : Type 0 where
   parts : rest ≡ part ++ (S rest).1
   again : (more : List ℕ) → Agree (S rest).1 more → S (part ++ more) ≡ ((S rest).0, more)
 
-record NodeAgain (F : List ℕ → Node × List ℕ) (rest : List ℕ) : Type 0 where
-  part : List ℕ
-  parts : rest ≡ part ++ (F rest).1
-  again : (more : List ℕ) → Agree (F rest).1 more → F (part ++ more) ≡ ((F rest).0, more)
+pub record NodeAgain (F : List ℕ → Node × List ℕ) (rest : List ℕ) : Type 0 where
+  pub part : List ℕ
+  pub parts : rest ≡ part ++ (F rest).1
+  pub again : (more : List ℕ) → Agree (F rest).1 more → F (part ++ more) ≡ ((F rest).0, more)
 
-quantified_again : (first : ℕ) (body : Node) (past : ℕ) (rest : List ℕ) → NodeAgain (λ (x : List ℕ). quantified first body past x) rest
+pub quantified_again : (first : ℕ) (body : Node) (past : ℕ) (rest : List ℕ) → NodeAgain (λ (x : List ℕ). quantified first body past x) rest
 unfolding quantified
 quantified_again first body past rest = by (quantifier_at rest) refl
   where
@@ -52,7 +52,7 @@ quantified_again first body past rest = by (quantifier_at rest) refl
         let c = quantifier_cut rest q.0 q.1 d in
         record { part = c.part; parts = rw d c.parts; again = rw d (λ more a. rw (c.again more a) refl) }
 
-closed_again : (kind : GroupKind) (first : ℕ) (body : Node) (past : ℕ) (rest : List ℕ) → NodeAgain (λ (x : List ℕ). closed kind first body past x) rest
+pub closed_again : (kind : GroupKind) (first : ℕ) (body : Node) (past : ℕ) (rest : List ℕ) → NodeAgain (λ (x : List ℕ). closed kind first body past x) rest
 unfolding closed
 closed_again group.Capturing first body past rest = quantified_again first (node.Group first body) past rest
 closed_again group.Plain first body past rest = quantified_again first body past rest

@@ -40,12 +40,12 @@ pub none_left : (units : List ℕ) → length units ≡ 0 → units ≡ []
 none_left [] h = refl
 none_left (u ∷ us) h = absurd (omega arith)
 
-no_piece : (p : Piece) (rest : List ℕ) → Begins [] p rest → ⊥
+pub no_piece : (p : Piece) (rest : List ℕ) → Begins [] p rest → ⊥
 unfolding piece_at
 no_piece p rest b = absurd cc
 
 -- nothing goes on
-ends_now : (w : Whole) (r : Reader) (fs : List Frame) → Left w (in_frames r fs) [] → Ends w fs (all_of r) r.groups []
+pub ends_now : (w : Whole) (r : Reader) (fs : List Frame) → Left w (in_frames r fs) [] → Ends w fs (all_of r) r.groups []
 ends_now w r fs l =
     elim (goes_on w.0 (length fs) (Ends w fs) r.alternatives r.terms r.groups [] l.1) [
       | inl t ↦ absurd (let f = term_begins w.0 (length fs) r.groups [] t.term t.mid t.next t.is in no_piece f.0 f.1 f.2)

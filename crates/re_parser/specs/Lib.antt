@@ -10,3 +10,4 @@ pub mod Faults
 pub mod Flags
 pub mod Reading
 pub mod Answers
+pub mod Laws

@@ -34,7 +34,11 @@ is_mark u = u == 58 || u == 61 || u == 33
 
 -- behind `(?`: only `:`, `=` and `!` go on
 abbrev pub IsMarkDue : (List ℕ → Type 0) → List ℕ → Type 0
-IsMarkDue Stops front = (u : ℕ) → is_mark u ≡ false → Stops (front ++ u ∷ [])
+IsMarkDue Stops front = EndsIn 63 front × ((u : ℕ) → is_mark u ≡ false → Stops (front ++ u ∷ []))
+
+-- whatever is behind these units, they begin with no escape that is listed, neither outside of classes nor in one
+abbrev pub NoEscape : List ℕ → Type 0
+NoEscape units = (more : List ℕ) → (escape_at (units ++ more) ≡ None) × (escaped_member_at (units ++ more) ≡ None)
 
 -- a `\` stands before, and the escape of a class that it begins is listed and ends behind the place
 pub record IsWithinEscape (front rest : List ℕ) : Type 0 where
@@ -52,10 +56,10 @@ pub record IsSyntax (Goes Stops Due : List ℕ → Type 0) (front rest : List �
   pub there : (u : ℕ) (behind : List ℕ) → rest ≡ u ∷ behind → Stops (front ++ u ∷ [])
   pub reason : IsFinished Goes front rest ⊎ (Due front ⊎ IsWithinEscape front rest)
 
--- Behind the front stands a `\` that begins an escape, since behind it no unit outside of ASCII may stand; and the escape isn't listed: it is none at all, or none of a class where the first unit of one of those is due.
+-- Behind the front stands a `\` that begins an escape, since no units go on behind it that begin with none; and the escape isn't listed: it is none at all, or none of a class where the first unit of one of those is due.
 pub record IsBadEscape (Goes Stops : List ℕ → Type 0) (front behind : List ℕ) : Type 0 where
   pub begins : Goes (front ++ 92 ∷ [])
-  pub escapes : (u : ℕ) → 128 ≤ u → Stops (front ++ 92 ∷ u ∷ [])
+  pub escapes : (units : List ℕ) → NoEscape units → Stops (front ++ 92 ∷ units)
   pub unlisted : (escape_at behind ≡ None) ⊎ ((escaped_member_at behind ≡ None) × ((u : ℕ) (more : List ℕ) → behind ≡ u ∷ more → Stops (front ++ 92 ∷ u ∷ [])))
 
 -- Behind the front stands a `(` that captures, since no `?` follows it. Only a `?` may follow: a group may begin there, but none that captures.

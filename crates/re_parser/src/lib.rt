@@ -7,6 +7,7 @@ mod escapes;
 mod faults;
 mod flags;
 mod kinds;
+mod laws;
 mod parser;
 mod pieces;
 mod pile;
@@ -15,6 +16,7 @@ mod reader;
 mod refusal;
 mod trees;
 
+pub use laws::one_reason;
 pub use parser::parse_pattern;
 pub use refusal::PatternRefusal;
 
