@@ -8,8 +8,8 @@ use Rattle.small_parser.specs.declared.token.Token.{Token}
 use Rattle.small_parser.specs.declared.token.TokenKind.TheVariants as k
 use Rattle.small_parser.specs.Grammar.{mark, Phrase, Phrases, IsTest, IsNothing, IsBlock, IsAsking, IsIf, IsIfElse, IsStmt, begins_else}
 use Rattle.small_parser.specs.Reading.{Fails, ◌>>=◌, Parse, test_at, closes, many, turns, else_at, asked_at, if_at, block_at, stmt_step, stmt_at}
-use Rattle.small_parser.specs.declared.refusal.ScriptRefusal.{ScriptRefusal}
-use Rattle.small_parser.specs.declared.refusal.ScriptRefusal.TheVariants as refusal
+use Rattle.small_parser.specs.declared.stop.Stop.{Stop}
+use Rattle.small_parser.specs.declared.stop.Stop.TheVariants as stop
 use Rattle.small_parser.proofs.Soundness.{stmt_sound}
 
 -- each phrase of a kind takes a token, and begins with no `}`
@@ -174,6 +174,6 @@ unfolding many
 many_refused p found ts apart e = rw (apart, e) refl
 
 -- a refusal is handed on
-pub fails_along : {Y Z : Type 0} (e : ScriptRefusal) (r : Option Y) (q : Option Z) → (r ≡ None → q ≡ None) → Fails e r → Fails e q
-fails_along refusal.NoMemory r q f h = tt
-fails_along (refusal.Syntax at) r q f h = f h
+pub fails_along : {Y Z : Type 0} (e : Stop) (r : Option Y) (q : Option Z) → (r ≡ None → q ≡ None) → Fails e r → Fails e q
+fails_along stop.NoMemory r q f h = tt
+fails_along (stop.Refused left) r q f h = f h

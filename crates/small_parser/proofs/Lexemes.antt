@@ -4,9 +4,11 @@ use Rattle.std.specs.Prelude.{◌⊎◌, ◌||◌, ◌==◌}
 use Rattle.std.specs.List.{list_all}
 use Rattle.std.proofs.lemmas.Bool.{eqb-true, and_parts}
 use Rattle.std.proofs.lemmas.List.{append-nil}
+use Rattle.std.proofs.lemmas.List.Folds.{list_all-append}
 use Rattle.small_parser.specs.declared.token.Token.{Token}
 use Rattle.small_parser.specs.Tokens.{is_blank, spelling, Begins, Tokens}
 use Rattle.small_parser.specs.Lexing.{Read, after_blank, token_at}
+use Rattle.small_parser.specs.Refusals.{Fronts, IsStop}
 use Rattle.small_parser.proofs.Steps.{some_is}
 use Rattle.small_parser.proofs.Spelling.{token_sound, token_complete, spelling_some}
 
@@ -161,11 +163,35 @@ unskip at bytes (t ∷ ts) h =
     let twice = after_twice bytes in
     (h.0, next_to at bytes t h.0 (record { read = ap token_at (sym twice) ∙ n.read; start = n.start ∙ omega (arith, ap length twice) }), h.2)
 
+-- white space at the front, and what is left behind it
+fronts_gap : (at : ℕ) (bytes : List ℕ) → Fronts at bytes [] (behind at bytes) (after_blank bytes)
+fronts_gap at bytes = let g = gap_of bytes in (g.gap, g.blank, g.is, omega (arith, ap length g.is, length-append g.gap (after_blank bytes)))
+
+-- a token behind white space that is put in front of it
+begins_behind : (at : ℕ) (bytes : List ℕ) (end : ℕ) (left : List ℕ) (t : Token) (rest : List ℕ) → Fronts at bytes [] end left → Begins end left t rest → Begins at bytes t rest
+begins_behind at bytes end left t rest f b =
+    let here : List ℕ = spelling t.kind ++ rest in
+    record {
+      gap = f.0 ++ b.gap;
+      blank = list_all-append is_blank f.0 b.gap ∙ rw (f.1, b.blank) refl;
+      bytes_are = f.2 ∙ ap (λ q. f.0 ++ q) (b.bytes_are ∙ append_assoc b.gap (spelling t.kind) rest) ∙ sym (append_assoc (f.0 ++ b.gap) (spelling t.kind) rest ∙ append_assoc f.0 b.gap here);
+      start = b.start ∙ (omega (arith, f.3, length-append f.0 b.gap));
+      kind = b.kind;
+      whole = b.whole;
+    }
+
+-- one more token at the front
+fronts_more : (at : ℕ) (bytes : List ℕ) (ts : List Token) (end : ℕ) (left : List ℕ) (t : Token) (rest : List ℕ) → Fronts at bytes ts end left → Begins end left t rest
+    → Fronts at bytes (ts ++ t ∷ []) (behind (t.start + length (spelling t.kind)) rest) (after_blank rest)
+fronts_more at bytes [] end left t rest f b = (rest, begins_behind at bytes end left t rest f b, fronts_gap (t.start + length (spelling t.kind)) rest)
+fronts_more at bytes (u ∷ us) end left t rest f b = (f.0, f.1, fronts_more (u.start + length (spelling u.kind)) f.0 us end left t rest f.2 b)
+
 -- these tokens were read up to what is left, where no white space stands
 pub record IsRead (bytes : List ℕ) (tokens : List Token) (left : List ℕ) : Type 0 where
   pub at : ℕ
   pub counted : at + length left ≡ length bytes
   pub apart : after_blank left ≡ left
+  pub fronts : Fronts 0 bytes tokens at left
   pub joins : (more : List Token) → Tokens at left more → Tokens 0 bytes (tokens ++ more)
   pub splits : (all : List Token) → Tokens 0 bytes all → (more : List Token) × (all ≡ tokens ++ more) × Tokens at left more
 
@@ -175,6 +201,7 @@ read_start bytes = record {
   at = behind 0 bytes;
   counted = omega (arith, after_le bytes);
   apart = after_twice bytes;
+  fronts = fronts_gap 0 bytes;
   joins = λ more h. unskip 0 bytes more h;
   splits = λ all h. (all, refl, skip 0 bytes all h);
 }
@@ -207,6 +234,7 @@ read_more bytes tokens left t rest r e start =
       at = behind next rest;
       counted = omega (arith, r.counted, ap length s.begins, length-append (spelling t.kind) rest, after_le rest);
       apart = after_twice rest;
+      fronts = fronts_more 0 bytes tokens r.at left t rest r.fronts (next_to r.at left t rest n);
       joins = λ more h. subst (Tokens 0 bytes) (sym (append_assoc tokens (t ∷ []) more)) (r.joins (t ∷ more) (rest, next_to r.at left t rest n, unskip next rest more h));
       splits = λ all h. let f = split_next bytes tokens left r t rest n all (r.splits all h) in (f.0, f.1, skip next rest f.0 f.2);
     }
@@ -230,6 +258,32 @@ stop_at : (at : ℕ) (left : List ℕ) (more : List Token) → after_blank left 
 stop_at at left [] apart some none h = omega (arith, ap length (after_all left h), ap length apart)
 stop_at at left (t ∷ ts) apart some none h = let n = next_from at left t h.0 h.1 in let found = ap token_at (sym apart) ∙ n.read in cc
 
--- where reading stops, the bytes have no tokens
-pub read_stop : (bytes : List ℕ) (tokens : List Token) (left : List ℕ) → IsRead bytes tokens left → (length left == 0) ≡ false → token_at left ≡ None → (others : List Token) → ¬ (Tokens 0 bytes others)
-read_stop bytes tokens left r e none others h = let s = r.splits others h in stop_at r.at left s.0 r.apart (is_some left e) none s.2
+-- white space at the front would be skipped
+no_blank : (b : ℕ) (bs : List ℕ) → after_blank (b ∷ bs) ≡ b ∷ bs → is_blank b ≡ false
+no_blank b bs e = by (is_blank b) refl
+  where
+    by : (x : Bool) → is_blank b ≡ x → is_blank b ≡ false
+    by false h = h
+    by true h = absurd (omega (arith, after_le bs, ap length (rw h at e)))
+
+-- where no token is read, none begins
+none_begins : (at : ℕ) (left : List ℕ) → after_blank left ≡ left → token_at left ≡ None → (t : Token) (rest : List ℕ) → Begins at left t rest → ⊥
+none_begins at left apart none t rest b = let n = next_from at left t rest b in let found = ap token_at (sym apart) ∙ n.read in cc
+
+-- reading stops at a byte
+is_stop : (bytes : List ℕ) (tokens : List Token) (left : List ℕ) (at : ℕ) → Fronts 0 bytes tokens at left → after_blank left ≡ left → 0 < length left → token_at left ≡ None → IsStop bytes tokens at
+is_stop bytes tokens [] at f apart some none = absurd (omega (arith, some))
+is_stop bytes tokens (b ∷ bs) at f apart some none = record {
+  byte = b;
+  others = bs;
+  fronts = f;
+  no_blank = no_blank b bs apart;
+  no_token = none_begins at (b ∷ bs) apart none;
+}
+
+-- where reading stops, no token stands, and the bytes have no tokens
+pub read_stop : (bytes : List ℕ) (tokens : List Token) (left : List ℕ) (at : ℕ) → IsRead bytes tokens left → at ≡ length bytes - length left → (length left == 0) ≡ false → token_at left ≡ None
+    → IsStop bytes tokens at × ((others : List Token) → ¬ (Tokens 0 bytes others))
+read_stop bytes tokens left at r start e none =
+    let here : r.at ≡ at = omega (arith, r.counted, start) in
+    (is_stop bytes tokens left at (subst (λ (q : ℕ). Fronts 0 bytes tokens q left) here r.fronts) r.apart (is_some left e) none, λ others h. let s = r.splits others h in stop_at r.at left s.0 r.apart (is_some left e) none s.2)

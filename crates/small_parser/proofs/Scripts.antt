@@ -1,6 +1,6 @@
 -- Whole scripts, both ways.
-use Rattle.std.proofs.Common.{◌≡◌, ℕ, List, [], ◌∷◌, Option, Some, None, refl, sym, subst, ◌∙◌, arith}
-use Rattle.std.specs.Prelude.{Err}
+use Rattle.std.proofs.Common.{◌≡◌, ℕ, List, [], ◌∷◌, length, Option, Some, None, refl, sym, subst, ◌∙◌, arith, inl, inr}
+use Rattle.std.specs.Prelude.{Err, unwrap_or}
 use Rattle.small_ast.specs.declared.tree.Stmt.{Stmt}
 use Rattle.small_parser.specs.declared.token.Token.{Token}
 use Rattle.small_parser.specs.declared.refusal.ScriptRefusal.{ScriptRefusal}
@@ -9,7 +9,8 @@ use Rattle.small_parser.specs.Tokens.{Tokens}
 use Rattle.small_parser.specs.Grammar.{Phrases, IsStmt, IsScript, Spells, max_nesting}
 use Rattle.small_parser.specs.Answers.{Answers}
 use Rattle.small_parser.specs.Lexing.{Lexes}
-use Rattle.small_parser.specs.Reading.{Fails, many, turns, stmt_at, ended, script_of}
+use Rattle.small_parser.specs.Refusals.{IsReadTo, IsSyntax, IsRefused}
+use Rattle.small_parser.specs.Reading.{IsReadBy, many, turns, stmt_at, ended, script_of}
 use Rattle.small_ast.specs.declared.tree.Script.{Script}
 use Rattle.small_parser.proofs.Steps.{some_is, bind_some}
 use Rattle.small_parser.proofs.Lexemes.{tokens_same}
@@ -54,11 +55,25 @@ pub spells_read : (bytes : List ℕ) (ts : List Token) (script : Script) → Tok
 spells_read bytes ts script h e = (ts, h, script_sound ts script e)
 
 -- tokens that were refused are no script
-refused_by : (e : ScriptRefusal) (script : Script) (ts : List Token) → Fails e (script_of ts) → IsScript ts script → Answers (Err e) script
-refused_by refusal.NoMemory script ts e h = tt
-refused_by (refusal.Syntax at) script ts e h = let some = script_complete ts script h in cc
+refused_by : (e : ScriptRefusal) (script : Script) (ts : List Token) (end : ℕ) → IsReadBy ts end (Err e) → IsScript ts script → Answers (Err e) script
+refused_by refusal.NoMemory script ts end e h = tt
+refused_by (refusal.Syntax at) script ts end e h = let some = script_complete ts script h in let none = e.0 in cc
 
 -- Where reading was refused, no script was spelt, or memory ran out.
-pub refused_answers : (bytes : List ℕ) (ts : List Token) (stopped : Option ℕ) (e : ScriptRefusal) → Lexes bytes ts stopped → Fails e (script_of ts) → (script : Script) → Spells bytes script → Answers (Err e) script
-refused_answers bytes ts (Some at) e lexes fails script h = absurd (lexes h.0 h.1)
-refused_answers bytes ts None e lexes fails script h = refused_by e script ts fails (subst (λ (q : List Token). IsScript q script) (tokens_same 0 bytes h.0 ts h.1 lexes) h.2)
+pub refused_answers : (bytes : List ℕ) (ts : List Token) (stopped : Option ℕ) (end : ℕ) (e : ScriptRefusal) → Lexes bytes ts stopped → IsReadBy ts end (Err e) → (script : Script) → Spells bytes script → Answers (Err e) script
+refused_answers bytes ts (Some at) end e lexes fails script h = absurd (lexes.1 h.0 h.1)
+refused_answers bytes ts None end e lexes fails script h = refused_by e script ts end fails (subst (λ (q : List Token). IsScript q script) (tokens_same 0 bytes h.0 ts h.1 lexes) h.2)
+
+-- the tokens up to where reading them stopped
+read_to : (bytes : List ℕ) (ts : List Token) (stopped : Option ℕ) → Lexes bytes ts stopped → IsReadTo bytes ts (unwrap_or stopped (length bytes))
+read_to bytes ts None lexes = inl (lexes, refl)
+read_to bytes ts (Some at) lexes = inr lexes.0
+
+-- Where reading was refused, a token stands, or the place behind all of them.
+pub refused_at : (bytes : List ℕ) (ts : List Token) (stopped : Option ℕ) (e : ScriptRefusal) → Lexes bytes ts stopped → IsReadBy ts (unwrap_or stopped (length bytes)) (Err e) → IsRefused bytes (Err e)
+refused_at bytes ts stopped refusal.NoMemory lexes fails = tt
+refused_at bytes ts stopped (refusal.Syntax at) lexes fails = record { tokens = ts; end = unwrap_or stopped (length bytes); read = read_to bytes ts stopped lexes; place = fails.1 }
+
+-- Where no token stands, none is read.
+pub refused_stop : (bytes : List ℕ) (ts : List Token) (at : ℕ) → Lexes bytes ts (Some at) → IsSyntax bytes at
+refused_stop bytes ts at lexes = record { tokens = ts; end = at; read = inr lexes.0; place = inl refl }

@@ -7,6 +7,7 @@ use Rattle.small_parser.specs.declared.token.Token.{Token}
 use Rattle.small_parser.specs.declared.token.TokenKind.{TokenKind}
 use Rattle.small_parser.specs.declared.token.TokenKind.TheVariants as k
 use Rattle.small_parser.specs.Tokens.{is_blank, is_letter, is_digit, is_word_byte, max_safe, Tokens}
+use Rattle.small_parser.specs.Refusals.{IsStop}
 
 -- a token's kind, and what is left
 abbrev pub Read : Type 0
@@ -94,7 +95,7 @@ unfoldable pub token_at : List ℕ → Option Read
 token_at [] = None
 token_at (b ∷ bs) = if is_word_byte b then word_at (b ∷ bs) else mark_at b bs
 
--- The bytes are these tokens, or no tokens where reading stopped.
+-- The bytes are these tokens, or they are no tokens, and these stand in front of where reading stopped.
 abbrev pub Lexes : List ℕ → List Token → Option ℕ → Type 0
 Lexes bytes tokens None = Tokens 0 bytes tokens
-Lexes bytes tokens (Some at) = (others : List Token) → ¬ (Tokens 0 bytes others)
+Lexes bytes tokens (Some at) = IsStop bytes tokens at × ((others : List Token) → ¬ (Tokens 0 bytes others))

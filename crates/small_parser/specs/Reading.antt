@@ -10,28 +10,27 @@ use Rattle.small_parser.specs.declared.token.TokenKind.{TokenKind}
 use Rattle.small_parser.specs.declared.token.TokenKind.TheVariants as k
 use Rattle.small_parser.specs.declared.refusal.ScriptRefusal.{ScriptRefusal}
 use Rattle.small_parser.specs.declared.refusal.ScriptRefusal.TheVariants as refusal
+use Rattle.small_parser.specs.declared.stop.Stop.{Stop}
+use Rattle.small_parser.specs.declared.stop.Stop.TheVariants as stop
+use Rattle.small_ast.specs.declared.tree.Script.{Script}
 use Rattle.small_parser.specs.Grammar.{side_of, comparison_of, is_else, max_nesting}
+use Rattle.small_parser.specs.Refusals.{IsPlace}
 
 infixl 10 ◌>>=◌
 abbrev pub ◌>>=◌ : {A B : Type 0} → Option A → (A → Option B) → Option B
 o >>= f = option_and_then f o
 
 -- what a function returned, seen by view, is what reading gives, unless memory ran out
-abbrev pub Fails : {Y : Type 0} → ScriptRefusal → Option Y → Type 0
-Fails refusal.NoMemory read = Unit {0}
-Fails (refusal.Syntax at) read = read ≡ None
+abbrev pub Fails : {Y : Type 0} → Stop → Option Y → Type 0
+Fails stop.NoMemory read = Unit {0}
+Fails (stop.Refused left) read = read ≡ None
 
-abbrev pub Gives : {X Y : Type 0} → (X → Y) → Result X ScriptRefusal → Option Y → Type 0
+abbrev pub Gives : {X Y : Type 0} → (X → Y) → Result X Stop → Option Y → Type 0
 Gives see (Ok x) read = read ≡ Some (see x)
 Gives see (Err e) read = Fails e read
 
 abbrev pub Parse : Type 0 → Type 0
 Parse A = List Token → Option (A × List Token)
-
--- where the tokens begin
-abbrev pub place : List Token → ℕ → ℕ
-place [] end = end
-place (t ∷ ts) end = t.start
 
 abbrev pub side_at : Parse Side
 side_at [] = None
@@ -132,3 +131,9 @@ ended body (t ∷ ts) = None
 -- all of the tokens
 unfoldable pub script_of : List Token → Option (List Stmt)
 script_of ts = many (stmt_at max_nesting) (turns ts) [] ts >>= λ x. ended x.0 x.1
+
+-- the script that is read from the tokens, or where they were refused
+abbrev pub IsReadBy : List Token → ℕ → Result Script ScriptRefusal → Type 0
+IsReadBy ts end (Ok script) = script_of ts ≡ Some script.body
+IsReadBy ts end (Err refusal.NoMemory) = Unit {0}
+IsReadBy ts end (Err (refusal.Syntax at)) = (script_of ts ≡ None) × IsPlace ts end at

@@ -6,6 +6,7 @@ mod lexer;
 mod parser;
 mod refusal;
 mod statements;
+mod stop;
 mod token;
 mod words;
 

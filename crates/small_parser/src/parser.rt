@@ -4,6 +4,7 @@ ghost use Rattle.std.specs.Prelude.{◌≡◌, ◌<◌, ◌^◌, length, IfOk};
 ghost use Rattle.small_ast.specs.declared.tree.Script.{Script};
 ghost use Rattle.small_parser.specs.Grammar.{Spells};
 ghost use Rattle.small_parser.specs.Answers.{Answers};
+ghost use Rattle.small_parser.specs.Refusals.{IsRefused};
 
 use crate::lexer::lex;
 use crate::refusal::ScriptRefusal;
@@ -20,6 +21,8 @@ pub fn parse_script(alloc: Global, bytes: &[u8]) -> Result<Script, ScriptRefusal
     ensures only { (script : Script) → Spells bytes.now script → Answers result script }
     // No bytes spell two scripts.
     ensures unique { (a b : Script) → Spells bytes.now a → Spells bytes.now b → a ≡ b }
+    // A refusal's place is that of a token, of the first byte at which no token stands, or of the end.
+    ensures refused { IsRefused bytes.now result }
 {
     let lexed = lex(alloc, bytes)?;
     let end = lexed.stopped.unwrap_or(bytes.len());

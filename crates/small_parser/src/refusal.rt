@@ -4,7 +4,6 @@ ghost use Rattle.std.specs.Prelude.{◌≡◌};
 ghost use Rattle.small_parser.specs.declared.refusal.ScriptRefusal.TheVariants as refusal;
 
 use js_units::NoMemory;
-use std::alloc::{AllocError, AllocFailed};
 
 /// Why no script is read.
 #[derive(Clone, Copy, Debug, PartialEq, Eq)]
@@ -20,22 +19,6 @@ impl From<NoMemory> for ScriptRefusal {
     ghost from_gives = { λ _ e. e ≡ refusal.NoMemory };
 
     fn from(_: NoMemory) -> ScriptRefusal {
-        ScriptRefusal::NoMemory
-    }
-}
-
-impl From<AllocError> for ScriptRefusal {
-    ghost from_gives = { λ _ e. e ≡ refusal.NoMemory };
-
-    fn from(_: AllocError) -> ScriptRefusal {
-        ScriptRefusal::NoMemory
-    }
-}
-
-impl<T: Drop> From<AllocFailed<T>> for ScriptRefusal {
-    ghost from_gives = { λ _ e. e ≡ refusal.NoMemory };
-
-    fn from(_: AllocFailed<T>) -> ScriptRefusal {
         ScriptRefusal::NoMemory
     }
 }

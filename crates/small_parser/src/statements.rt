@@ -1,30 +1,27 @@
-//! Statements from tokens. `end` is the byte offset of the place behind the last token.
+//! Statements from tokens.
 
-ghost use Rattle.std.specs.Prelude.{◌≡◌, ℕ, List, [], ◌∷◌, IfOk};
+ghost use Rattle.std.specs.Prelude.{◌≡◌, ℕ, List, [], ◌∷◌, length, IfOk};
 ghost use Rattle.small_ast.specs.declared.tree.Side.TheVariants as side;
 ghost use Rattle.small_parser.specs.Grammar.{side_of, comparison_of, is_else};
-ghost use Rattle.small_parser.specs.declared.refusal.ScriptRefusal.TheVariants as refusal;
-ghost use Rattle.small_parser.specs.Reading.{Gives, place, side_at, comparison_at, test_at, closes, after_open_round, after_close_round, asked_at, many, turns, block_at, else_at, if_at, stmt_at, script_of};
+ghost use Rattle.small_parser.specs.declared.stop.Stop.TheVariants as stop;
+ghost use Rattle.small_parser.specs.Reading.{Gives, side_at, comparison_at, test_at, closes, after_open_round, after_close_round, asked_at, many, turns, block_at, else_at, if_at, stmt_at, script_of, IsReadBy};
+ghost use Rattle.small_parser.specs.Refusals.{IsPlace};
 
 use crate::refusal::ScriptRefusal;
+use crate::stop::Stop;
 use crate::token::{Token, TokenKind};
 use js_units::{NoMemory, Units};
 use small_ast::{Comparison, Script, Side, Stmt, Test};
-use sqlite_items::{Boxed, Items};
+use sqlite_items::{Boxed, Items, at};
 use std::alloc::Global;
 
 /// How deep statements and tests may nest.
 const MAX_NESTING: usize = 200;
 
-fn refused(tokens: &[Token], end: usize) -> ScriptRefusal
-    ensures { result ≡ refusal.Syntax (place tokens.now end) }
+fn refused(tokens: &[Token]) -> Stop
+    ensures { result ≡ stop.Refused (length tokens.now) }
 {
-    match tokens {
-        [] => ScriptRefusal::Syntax { at: end },
-        [first, ..] => ScriptRefusal::Syntax {
-            at: first.start as usize,
-        },
-    }
+    Stop::Refused { left: tokens.len() }
 }
 
 fn name(alloc: Global, site: u32, letter: u8) -> Result<Side, NoMemory>
@@ -36,11 +33,11 @@ fn name(alloc: Global, site: u32, letter: u8) -> Result<Side, NoMemory>
 }
 
 /// A name or a number.
-fn side(alloc: Global, tokens: &[Token], end: usize) -> Result<(Side, &[Token]), ScriptRefusal>
+fn side(alloc: Global, tokens: &[Token]) -> Result<(Side, &[Token]), Stop>
     ensures { Gives (λ x. (x.0, x.1.now)) result (side_at tokens.now) }
 {
     match tokens {
-        [] => Err(refused(tokens, end)),
+        [] => Err(refused(tokens)),
         [first, rest @ ..] => match first.kind {
             TokenKind::Name(letter) => Ok((name(alloc, first.start, letter)?, rest)),
             TokenKind::Number(value) => Ok((
@@ -50,31 +47,31 @@ fn side(alloc: Global, tokens: &[Token], end: usize) -> Result<(Side, &[Token]),
                 },
                 rest,
             )),
-            _ => Err(refused(tokens, end)),
+            _ => Err(refused(tokens)),
         },
     }
 }
 
-fn comparison(tokens: &[Token], end: usize) -> Result<(u32, Comparison, &[Token]), ScriptRefusal>
+fn comparison(tokens: &[Token]) -> Result<(u32, Comparison, &[Token]), Stop>
     ensures { Gives (λ x. (x.0, x.1, x.2.now)) result (comparison_at tokens.now) }
 {
     match tokens {
-        [] => Err(refused(tokens, end)),
+        [] => Err(refused(tokens)),
         [first, rest @ ..] => match first.kind {
             TokenKind::Comparison(comparison) => Ok((first.start, comparison, rest)),
-            _ => Err(refused(tokens, end)),
+            _ => Err(refused(tokens)),
         },
     }
 }
 
 /// Two sides and a comparison between them.
 #[tactic(auto, unfolding(crate::specs::Reading::test_at))]
-fn test(alloc: Global, tokens: &[Token], end: usize) -> Result<(Test, &[Token]), ScriptRefusal>
+fn test(alloc: Global, tokens: &[Token]) -> Result<(Test, &[Token]), Stop>
     ensures { Gives (λ x. (x.0, x.1.now)) result (test_at tokens.now) }
 {
-    let (left, rest) = side(alloc, tokens, end)?;
-    let (site, comparison, rest) = comparison(rest, end)?;
-    let (right, rest) = side(alloc, rest, end)?;
+    let (left, rest) = side(alloc, tokens)?;
+    let (site, comparison, rest) = comparison(rest)?;
+    let (right, rest) = side(alloc, rest)?;
     let test = Test {
         site,
         comparison,
@@ -93,88 +90,73 @@ fn closes(tokens: &[Token]) -> bool
     }
 }
 
-fn after_open_round(tokens: &[Token], end: usize) -> Result<&[Token], ScriptRefusal>
+fn after_open_round(tokens: &[Token]) -> Result<&[Token], Stop>
     ensures { Gives (λ x. x.now) result (after_open_round tokens.now) }
 {
     match tokens {
-        [] => Err(refused(tokens, end)),
+        [] => Err(refused(tokens)),
         [first, rest @ ..] => match first.kind {
             TokenKind::OpenRound => Ok(rest),
-            _ => Err(refused(tokens, end)),
+            _ => Err(refused(tokens)),
         },
     }
 }
 
-fn after_close_round(tokens: &[Token], end: usize) -> Result<&[Token], ScriptRefusal>
+fn after_close_round(tokens: &[Token]) -> Result<&[Token], Stop>
     ensures { Gives (λ x. x.now) result (after_close_round tokens.now) }
 {
     match tokens {
-        [] => Err(refused(tokens, end)),
+        [] => Err(refused(tokens)),
         [first, rest @ ..] => match first.kind {
             TokenKind::CloseRound => Ok(rest),
-            _ => Err(refused(tokens, end)),
+            _ => Err(refused(tokens)),
         },
     }
 }
 
 /// `(`, a test, which nests once more, and `)`.
 #[tactic(auto, unfolding(crate::specs::Reading::asked_at))]
-fn asked(
-    alloc: Global,
-    tokens: &[Token],
-    end: usize,
-    depth: usize,
-) -> Result<(Test, &[Token]), ScriptRefusal>
+fn asked(alloc: Global, tokens: &[Token], depth: usize) -> Result<(Test, &[Token]), Stop>
     ensures { Gives (λ x. (x.0, x.1.now)) result (asked_at depth tokens.now) }
 {
-    let inside = after_open_round(tokens, end)?;
+    let inside = after_open_round(tokens)?;
     if depth == 0 {
-        return Err(refused(inside, end));
+        return Err(refused(inside));
     }
-    let (test, rest) = test(alloc, inside, end)?;
-    let rest = after_close_round(rest, end)?;
+    let (test, rest) = test(alloc, inside)?;
+    let rest = after_close_round(rest)?;
     Ok((test, rest))
 }
 
 /// A statement whose tokens nest at most `depth` deep, and what follows it.
 #[cycle(stmt)]
 #[tactic(auto, unfolding(crate::specs::Reading::stmt_at))]
-fn stmt(
-    alloc: Global,
-    tokens: &[Token],
-    end: usize,
-    depth: usize,
-) -> Result<(Stmt, &[Token]), ScriptRefusal>
+fn stmt(alloc: Global, tokens: &[Token], depth: usize) -> Result<(Stmt, &[Token]), Stop>
     ensures { Gives (λ x. (x.0, x.1.now)) result (stmt_at depth tokens.now) }
 {
     if depth == 0 {
-        return Err(refused(tokens, end));
+        return Err(refused(tokens));
     }
     match tokens {
-        [] => Err(refused(tokens, end)),
+        [] => Err(refused(tokens)),
         [first, rest @ ..] => match first.kind {
             TokenKind::Semicolon => Ok((Stmt::Nothing { site: first.start }, rest)),
-            TokenKind::Open => block(alloc, first.start, rest, end, depth - 1),
-            TokenKind::If => if_stmt(alloc, first.start, rest, end, depth - 1),
-            _ => Err(refused(tokens, end)),
+            TokenKind::Open => block(alloc, first.start, rest, depth - 1),
+            TokenKind::If => if_stmt(alloc, first.start, rest, depth - 1),
+            _ => Err(refused(tokens)),
         },
     }
 }
 
 /// Statements up to a `}` or the end.
 #[cycle(stmt)]
-fn stmts(
-    alloc: Global,
-    tokens: &[Token],
-    end: usize,
-    depth: usize,
-) -> Result<(Items<Stmt>, &[Token]), ScriptRefusal>
+fn stmts(alloc: Global, tokens: &[Token], depth: usize) -> Result<(Items<Stmt>, &[Token]), Stop>
     ensures { Gives (λ x. (x.0, x.1.now)) result (many (stmt_at depth) (turns tokens.now) [] tokens.now) }
 {
     let mut body = Items::new(alloc);
     let mut rest = tokens;
     'each: while !closes(rest) {
-        let (next, after) = stmt(alloc, rest, end, depth)?;
+        let (next, after) = stmt(alloc, rest, depth)?;
         body.push(next)?;
         rest = after;
     }
@@ -184,21 +166,15 @@ fn stmts(
 /// A block behind its `{`.
 #[cycle(stmt)]
 #[tactic(auto, unfolding(crate::specs::Reading::block_at))]
-fn block(
-    alloc: Global,
-    site: u32,
-    tokens: &[Token],
-    end: usize,
-    depth: usize,
-) -> Result<(Stmt, &[Token]), ScriptRefusal>
+fn block(alloc: Global, site: u32, tokens: &[Token], depth: usize) -> Result<(Stmt, &[Token]), Stop>
     ensures { Gives (λ x. (x.0, x.1.now)) result (block_at (stmt_at depth) site tokens.now) }
 {
-    let (body, rest) = stmts(alloc, tokens, end, depth)?;
+    let (body, rest) = stmts(alloc, tokens, depth)?;
     match rest {
-        [] => Err(refused(rest, end)),
+        [] => Err(refused(rest)),
         [first, after @ ..] => match first.kind {
             TokenKind::Close => Ok((Stmt::Block { site, body }, after)),
-            _ => Err(refused(rest, end)),
+            _ => Err(refused(rest)),
         },
     }
 }
@@ -208,14 +184,13 @@ fn block(
 fn other(
     alloc: Global,
     tokens: &[Token],
-    end: usize,
     depth: usize,
-) -> Result<(Option<Boxed<Stmt>>, &[Token]), ScriptRefusal>
+) -> Result<(Option<Boxed<Stmt>>, &[Token]), Stop>
     ensures { Gives (λ x. (x.0, x.1.now)) result (else_at (stmt_at depth) tokens.now) }
 {
     match tokens {
         [first, after @ ..] if matches!(&first.kind, TokenKind::Else) => {
-            let (other, rest) = stmt(alloc, after, end, depth)?;
+            let (other, rest) = stmt(alloc, after, depth)?;
             let other = Boxed::new(alloc, other)?;
             Ok((Some(other), rest))
         }
@@ -230,15 +205,14 @@ fn if_stmt(
     alloc: Global,
     site: u32,
     tokens: &[Token],
-    end: usize,
     depth: usize,
-) -> Result<(Stmt, &[Token]), ScriptRefusal>
+) -> Result<(Stmt, &[Token]), Stop>
     ensures { Gives (λ x. (x.0, x.1.now)) result (if_at depth (stmt_at depth) site tokens.now) }
 {
-    let (test, rest) = asked(alloc, tokens, end, depth)?;
-    let (then, rest) = stmt(alloc, rest, end, depth)?;
+    let (test, rest) = asked(alloc, tokens, depth)?;
+    let (then, rest) = stmt(alloc, rest, depth)?;
     let then = Boxed::new(alloc, then)?;
-    let (other, rest) = other(alloc, rest, end, depth)?;
+    let (other, rest) = other(alloc, rest, depth)?;
     let stmt = Stmt::If {
         site,
         test,
@@ -250,12 +224,35 @@ fn if_stmt(
 
 /// Statements up to the end.
 #[tactic(auto, unfolding(crate::specs::Reading::script_of))]
-pub fn script(alloc: Global, tokens: &[Token], end: usize) -> Result<Script, ScriptRefusal>
+fn whole(alloc: Global, tokens: &[Token]) -> Result<Script, Stop>
     ensures { Gives (λ script. script.body) result (script_of tokens.now) }
 {
-    let (body, rest) = stmts(alloc, tokens, end, MAX_NESTING)?;
+    let (body, rest) = stmts(alloc, tokens, MAX_NESTING)?;
     match rest {
         [] => Ok(Script { body }),
-        [..] => Err(refused(rest, end)),
+        [..] => Err(refused(rest)),
+    }
+}
+
+/// Where the last of so many tokens begin, or the end where there is none.
+fn place(tokens: &[Token], left: usize, end: usize) -> usize
+    ensures { IsPlace tokens.now end result }
+{
+    match at(tokens, tokens.len().saturating_sub(left)) {
+        Some(token) => token.start as usize,
+        None => end,
+    }
+}
+
+/// The script of all tokens. `end` is the byte offset of the place behind the last token.
+pub fn script(alloc: Global, tokens: &[Token], end: usize) -> Result<Script, ScriptRefusal>
+    ensures { IsReadBy tokens.now end result }
+{
+    match whole(alloc, tokens) {
+        Ok(script) => Ok(script),
+        Err(Stop::Refused { left }) => Err(ScriptRefusal::Syntax {
+            at: place(tokens, left, end),
+        }),
+        Err(Stop::NoMemory) => Err(ScriptRefusal::NoMemory),
     }
 }

@@ -7,7 +7,7 @@ loop-left-init c = rw (c.new-tokens.ensures.items, c.after_blank-left.ensures) (
 
 pub returns-in_default : goal.returns-in_default
 returns-in_default c =
-    read_stop c.args.bytes.now c.loop-left.tokens.items c.loop-left.left.now c.loop-left.invariant (sym c.is_empty.ensures ∙ c.loop-left-test.true) (sym c.in_default.ensures)
+    read_stop c.args.bytes.now c.loop-left.tokens.items c.loop-left.left.now _ c.loop-left.invariant refl (sym c.is_empty.ensures ∙ c.loop-left-test.true) (sym c.in_default.ensures)
 
 pub loop-left-smaller : goal.loop-left-smaller
 loop-left-smaller c = rw c.after_blank-left-in-loop-left.ensures (read_falls c.loop-left.left.now (c.in-Some.kind, c.in-Some.rest.now) (sym c.in-Some.ensures))
