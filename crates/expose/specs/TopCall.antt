@@ -12,6 +12,7 @@ use Rattle.path_core.specs.Inputs.{within}
 use Rattle.small_ast.specs.declared.tree.Script.{Script}
 use Rattle.report_text.specs.declared.report.Report.{Report}
 use Rattle.small_parser.specs.Grammar.{Spells}
+use Rattle.small_parser.specs.Refusals.{IsSyntax}
 use Rattle.report_text.specs.Lines.{report_text}
 use Rattle.explorer.specs.Listing.{max_inputs, IsListed}
 
@@ -122,13 +123,15 @@ pub record AreListable (bounds : List ℕ) (accepted : Bounds) : Type 0 where
   pub formed : form bounds ≡ Ok accepted
   pub few : length (within accepted.inputs) ≤ max_inputs
 
--- no script stands in the first file
+-- no script stands in the first file, and the place of its refusal is told
 pub record IsScriptRefused (script bounds : List ℕ) (number : ℕ) (text : List ℕ) : Type 0 where
   pub accepted : Bounds
   pub formed : AreListable bounds accepted
   pub none : (s : Script) → ¬ Spells script s
+  pub place : ℕ
+  pub place_is : IsSyntax script place
   pub number_is : number ≡ 5
-  pub text_is : (at : ℕ) × (text ≡ codes "script refused at " ++ decimal at ++ codes ": syntax\n")
+  pub text_is : text ≡ codes "script refused at " ++ decimal place ++ codes ": syntax\n"
 
 -- the paths are listed
 pub record IsListing (script bounds : List ℕ) (number : ℕ) (text : List ℕ) : Type 0 where

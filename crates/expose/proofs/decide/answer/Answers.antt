@@ -10,6 +10,8 @@ returns-in-Err-Syntax c =
       accepted = c.in-Ok.bounds;
       formed = record { formed = c.in-Ok.ensures.form; few = omega (arith, c.count.ensures) };
       none = λ s h. rw c.in-Err-Syntax.field-0-is at (c.in-Err-Syntax.ensures.only s h);
+      place = c.in-Err-Syntax.at;
+      place_is = rw c.in-Err-Syntax.field-0-is at c.in-Err-Syntax.ensures.refused;
       number_is = refl;
-      text_is = (c.in-Err-Syntax.at, refl);
+      text_is = refl;
     }))))
