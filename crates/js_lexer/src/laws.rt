@@ -30,4 +30,5 @@ pub fn one_goal()
     ensures none { (text : List ℕ) (at : ℕ) (goal other : Goal) (r : LexRefusal) → IsNone text at goal r → begins_slash (drop r.at text) ≡ false → IsNone text at other r }
     ensures place { (text : List ℕ) (at : ℕ) (goal other : Goal) (t : Token) (r : LexRefusal) → IsNext text at goal t → IsNone text at other r → r.at ≡ t.start }
     ensures gap { (text : List ℕ) (at : ℕ) (goal other : Goal) (a b : Token) → IsNext text at goal a → IsNext text at other b → (a.start ≡ b.start) × (a.line_before ≡ b.line_before) }
+    ensures nothing { (text : List ℕ) (at : ℕ) (goal other : Goal) (r s : LexRefusal) → IsNone text at goal r → IsNone text at other s → r.at ≡ s.at }
 {}

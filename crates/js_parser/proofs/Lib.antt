@@ -7,5 +7,7 @@ pub mod SlashMarks
 pub mod Goals
 pub mod Spelt
 pub mod OneOutcome
+pub mod OneReason
+pub mod OneRefusal
 pub mod Refused
 pub mod Scripts

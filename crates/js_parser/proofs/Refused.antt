@@ -10,6 +10,7 @@ use Rattle.js_grammar.specs.declared.token.TokenKind.{TokenKind}
 use Rattle.js_lexer.specs.Tokens.{IsNext, IsNone}
 use Rattle.js_lexer.specs.declared.token.Token.{Token as Lexed}
 use Rattle.js_lexer.specs.declared.token.LexRefusal.{LexRefusal}
+use Rattle.js_lexer.specs.declared.token.Goal.{Goal}
 use Rattle.js_lexer.specs.declared.token.TokenKind.{TokenKind as LexedKind}
 use Rattle.js_lexer.specs.declared.token.TokenKind.TheVariants as lexed
 use Rattle.js_reading.specs.declared.mode.Parser.{Parser}
@@ -31,6 +32,9 @@ pub record Laws : Type 0 where
   pub lexing : Lexing
   pub other : OtherGoal
   pub slash : SlashGoal
+  pub place : (text : List ℕ) (at : ℕ) (goal other : Goal) (t : Lexed) (r : LexRefusal) → IsNext text at goal t → IsNone text at other r → r.at ≡ t.start
+  pub gap : (text : List ℕ) (at : ℕ) (goal other : Goal) (a b : Lexed) → IsNext text at goal a → IsNext text at other b → (a.start ≡ b.start) × (a.line_before ≡ b.line_before)
+  pub nothing : (text : List ℕ) (at : ℕ) (goal other : Goal) (r s : LexRefusal) → IsNone text at goal r → IsNone text at other s → r.at ≡ s.at
   pub complete : (ts : List Token) (body : List Stmt) → Shape ts body → IsReadWhole ts body
   pub reached : (ts : List Token) (p : Parser) → Reaches ts start p → Viable ts
 
@@ -66,7 +70,7 @@ apart : (ts : List Token) (t : Token) (more : List Token) → (ts ++ t ∷ []) +
 apart [] t more = refl
 apart (u ∷ us) t more = ap (λ (x : List Token). u ∷ x) (apart us t more)
 
-goes : Laws → (ts : List Token) (p : Parser) (t : Token) → IsReadTo ts start p → Viable (ts ++ t ∷ []) → IsGone p t
+pub goes : Laws → (ts : List Token) (p : Parser) (t : Token) → IsReadTo ts start p → Viable (ts ++ t ∷ []) → IsGone p t
 goes laws ts p t h v =
     let whole = laws.complete ((ts ++ t ∷ []) ++ v.0) v.1 v.2 in
     let r = read_on ts start p h (t ∷ v.0) v.1 (subst (λ (x : List Token). IsRead (λ n. Unit {0}) x start v.1) (apart ts t v.0) whole) in

@@ -19,17 +19,20 @@ IsReading = (text : List ℕ) (body : List Stmt) → IsSpelling text body → Is
 abbrev pub IsOne : Type 0
 IsOne = (text : List ℕ) (a b : Outcome) → IsOutcome text 0 start a → IsOutcome text 0 start b → a ≡ b
 
-one_script : (a b : Script) → a.body ≡ b.body → a ≡ b
+pub one_script : (a b : Script) → a.body ≡ b.body → a ≡ b
 one_script a b e = λ i. record { body = e i }
 
 -- the statements that are read are the ones that are spelt
 spelt_is_read : IsReading → IsOne → (text : List ℕ) (a b : List Stmt) → IsOutcome text 0 start (Ok a) → IsSpelling text b → b ≡ a
 spelt_is_read reading one text a b i s = let e = one text (Ok b) (Ok a) (reading text b s) i in cc
 
-pub unique : IsReading → IsOne → (bytes : List ℕ) (a b : Script) → Spells bytes a → Spells bytes b → a ≡ b
-unique reading one bytes a b s t = one_script a b (spelt_is_read reading one (code_units bytes) b.body a.body (reading (code_units bytes) b.body t.spelt) s.spelt)
+pub same_body : IsReading → IsOne → (text : List ℕ) (a b : List Stmt) → IsSpelling text a → IsSpelling text b → a ≡ b
+same_body reading one text a b s t = spelt_is_read reading one text b a (reading text b t) s
 
-none_contained : (ps : List ℕ) (at : ℕ) → ps ≡ [] → Contains ps at → ⊥
+pub unique : IsReading → IsOne → (bytes : List ℕ) (a b : Script) → Spells bytes a → Spells bytes b → a ≡ b
+unique reading one bytes a b s t = one_script a b (same_body reading one (code_units bytes) a.body b.body s.spelt t.spelt)
+
+pub none_contained : (ps : List ℕ) (at : ℕ) → ps ≡ [] → Contains ps at → ⊥
 none_contained ps at e h = omega (arith, ap length e, h.1)
 
 named_only : (body : List Stmt) (result : Result Script ScriptRefusal) → IsNamedBy body result → (script : Script) → script.body ≡ body → early_places script ≡ [] → Answers result (Ok script)

@@ -91,6 +91,11 @@ IsRefusedBy bytes (refusal.Utf8 at) = (IsUtf8 bytes → ⊥) × IsValidUpTo byte
 IsRefusedBy bytes (refusal.EarlyName at) = IsUtf8 bytes × IsEarly (code_units bytes) at
 IsRefusedBy bytes e = IsUtf8 bytes × IsRefusedIn (code_units bytes) e
 
+-- the same, where memory didn't run out
+abbrev pub IsReason : List ℕ → ScriptRefusal → Type 0
+IsReason bytes refusal.NoMemory = ⊥
+IsReason bytes e = IsRefusedBy bytes e
+
 abbrev pub IsRefused : List ℕ → Result Script ScriptRefusal → Type 0
 IsRefused bytes (Ok script) = Unit {0}
 IsRefused bytes (Err e) = IsRefusedBy bytes e

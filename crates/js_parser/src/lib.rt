@@ -9,6 +9,7 @@ mod reading;
 mod refusal;
 mod tokens;
 
+pub use laws::one_refusal;
 pub use parser::parse_script;
 pub use refusal::ScriptRefusal;
 

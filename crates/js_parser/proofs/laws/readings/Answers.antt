@@ -2,7 +2,8 @@ use Rattle.std.proofs.Common.{Ok, refl}
 use Rattle.js_reading.specs.Reading.{start}
 use Rattle.js_parser.proofs.Spelt.{outcome_spelt, spelt_outcome}
 use Rattle.js_parser.proofs.OneOutcome.{one_outcome}
-use Rattle.js_parser.proofs.Refused.{refused_in}
+use Rattle.js_parser.proofs.Refused.{Laws, refused_in}
+use Rattle.js_parser.proofs.OneRefusal.{one_refusal, refused_apart}
 use Rattle.js_parser.proofs.laws.readings.Goals as goal
 
 pub returns-clause-spelt : goal.returns-clause-spelt
@@ -21,15 +22,23 @@ returns-clause-one c =
     λ text a b i j.
     one_outcome (record { token = c.one_token.ensures.token; none = c.one_token.ensures.none; number = c.one_value.ensures.number; text = c.one_value.ensures.text }) text 0 start a b i j
 
+laws : (c : goal.After-viability) → Laws
+laws c = record {
+  lexing = record { token = c.one_token.ensures.token; none = c.one_token.ensures.none; number = c.one_value.ensures.number; text = c.one_value.ensures.text };
+  other = c.one_goal.ensures.other;
+  slash = c.one_goal.ensures.slash;
+  place = c.one_goal.ensures.place;
+  gap = c.one_goal.ensures.gap;
+  nothing = c.one_goal.ensures.nothing;
+  complete = c.completeness.ensures.whole;
+  reached = c.viability.ensures.reached;
+}
+
 pub returns-clause-refused : goal.returns-clause-refused
-returns-clause-refused c =
-    λ text e i.
-    refused_in
-    (record {
-      lexing = record { token = c.one_token.ensures.token; none = c.one_token.ensures.none; number = c.one_value.ensures.number; text = c.one_value.ensures.text };
-      other = c.one_goal.ensures.other;
-      slash = c.one_goal.ensures.slash;
-      complete = c.completeness.ensures.whole;
-      reached = c.viability.ensures.reached;
-    })
-    text e i
+returns-clause-refused c = refused_in (laws c)
+
+pub returns-clause-alone : goal.returns-clause-alone
+returns-clause-alone c = one_refusal (laws c)
+
+pub returns-clause-apart : goal.returns-clause-apart
+returns-clause-apart c = λ text body e s r. refused_apart (laws c) text s.tokens body s.tokens_are (c.soundness.ensures.whole s.tokens body) (c.completeness.ensures.shallow s.tokens body s.shape) s.safe e r
