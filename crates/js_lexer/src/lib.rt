@@ -20,6 +20,3 @@ pub use laws::{one_goal, one_token, one_value};
 pub use lexer::next_token;
 pub use token::{Goal, LexRefusal, Token, TokenKind};
 pub use values::{flags_of, number_of, text_of};
-
-#[cfg(test)]
-mod tests;

@@ -15,7 +15,7 @@ use Rattle.js_lexer.specs.declared.token.TokenKind.{TokenKind as LexedKind}
 use Rattle.js_lexer.specs.declared.token.TokenKind.TheVariants as lexed
 use Rattle.js_reading.specs.declared.mode.Parser.{Parser}
 use Rattle.js_reading.specs.Reading.{step, ends, nesting, start, IsRead, IsReadWhole}
-use Rattle.js_soundness.specs.Reaching.{Reaches}
+use Rattle.js_laws.specs.Reaching.{Reaches}
 use Rattle.js_parser.specs.Places.{byte_at}
 use Rattle.js_parser.specs.Tokens.{IsKindBy, IsToken, goal_of}
 use Rattle.js_parser.specs.Outcomes.{Outcome, IsOutcome, outcome_none, outcome_over, outcome_refused, outcome_more, is_wide, unless_refused, taken_by, taken, over_by}

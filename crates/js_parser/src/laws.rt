@@ -10,9 +10,8 @@ ghost use Rattle.js_parser.specs.Spelling.{IsSpelling, Spells};
 ghost use Rattle.js_parser.specs.Refusals.{IsRefusedIn, IsReason};
 ghost use Rattle.js_parser.specs.declared.refusal.ScriptRefusal.{ScriptRefusal as SpecRefusal};
 
-use js_completeness::completeness;
+use js_laws::{completeness, soundness, viability};
 use js_lexer::{one_goal, one_token, one_value};
-use js_soundness::{soundness, viability};
 
 /// A text is read exactly where its tokens spell it, as those statements; reading answers one thing; and what is refused
 /// is refused at its place and for its reason, which is the only one.

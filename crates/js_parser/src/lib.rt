@@ -12,6 +12,3 @@ mod tokens;
 pub use laws::one_refusal;
 pub use parser::parse_script;
 pub use refusal::ScriptRefusal;
-
-#[cfg(test)]
-mod tests;

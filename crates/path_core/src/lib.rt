@@ -19,6 +19,3 @@ pub use path::{
 };
 pub use query::Query;
 pub use reading::read_bounds;
-
-#[cfg(test)]
-mod tests;

@@ -9,6 +9,3 @@ mod marks;
 
 pub use checking::{Verdict, check};
 pub use marks::Marks;
-
-#[cfg(test)]
-mod tests;

@@ -8,6 +8,3 @@ mod patterns;
 
 pub use laws::{classes_fold, ends_lie_ahead, repetition_unfolds, search_finds_the_first};
 pub use patterns::{ClassSet, Flags, Node, Pattern};
-
-#[cfg(test)]
-mod tests;

@@ -13,6 +13,3 @@ mod turns;
 
 pub use caps::{Caps, Groups};
 pub use search::exec;
-
-#[cfg(test)]
-mod tests;

@@ -19,6 +19,3 @@ mod trees;
 pub use laws::one_reason;
 pub use parser::parse_pattern;
 pub use refusal::PatternRefusal;
-
-#[cfg(test)]
-mod tests;

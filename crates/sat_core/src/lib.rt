@@ -9,6 +9,3 @@ mod solving;
 mod trail;
 
 pub use solving::{Answer, solve};
-
-#[cfg(test)]
-mod tests;

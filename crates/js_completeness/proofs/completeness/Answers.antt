@@ -1,6 +1,0 @@
-use Rattle.std.proofs.Common.{◌≤◌}
-use Rattle.js_completeness.proofs.Complete.{complete}
-use Rattle.js_completeness.proofs.completeness.Goals as goal
-
-pub returns : goal.returns
-returns c = record { whole = λ ts body h. complete (λ n. Unit {0}) ts body h; shallow = λ ts body h. complete (λ n. n ≤ 200) ts body h }

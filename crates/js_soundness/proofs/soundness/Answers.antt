@@ -1,5 +1,0 @@
-use Rattle.js_soundness.proofs.Sound.{whole_sound, shallow_sound}
-use Rattle.js_soundness.proofs.soundness.Goals as goal
-
-pub returns : goal.returns
-returns c = record { whole = λ ts body h. whole_sound ts body h; shallow = λ ts body h. shallow_sound ts body h }
