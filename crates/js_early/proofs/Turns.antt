@@ -6,8 +6,10 @@ use Rattle.std.proofs.lemmas.List.Sums.{sum_by-cons}
 use Rattle.js_early.specs.declared.tree.Tree.{Tree}
 use Rattle.js_early.specs.Early.{Places}
 use Rattle.js_early.specs.Parts.{lesser, least_with}
-use Rattle.js_early.specs.Search.{tree_places}
+use Rattle.js_early.specs.Search.{tree_places, tree_weight, tree_below}
 use Rattle.std.proofs.lemmas.Grind.{flat_map-append}
+use Rattle.js_early.specs.declared.tree.Tree.TheVariants as tree
+use Rattle.js_early.proofs.Weighs.{expr_itself, stmt_itself}
 use Rattle.js_early.proofs.Least.{parts, least_both, least_none}
 
 -- ---- one more tree
@@ -16,6 +18,11 @@ pub flat_map_push : (left : List Tree) (t : Tree) → flat_map tree_places (left
 flat_map_push left t = flat_map-append tree_places left (t ∷ []) ∙ ap (λ (ps : Places). flat_map tree_places left ++ ps) (append-nil (tree_places t))
 
 pub ruleset pushed = (flat_map_push, least_both, least_none)
+
+-- a tree is more than what is below it
+pub tree_itself : (t : Tree) → tree_weight t ≡ 1 + tree_below t
+tree_itself (tree.Expression e) = expr_itself e.now
+tree_itself (tree.Statement s) = stmt_itself s.now
 
 -- ---- places in any order
 

@@ -1,11 +1,11 @@
 -- One level of the weight of a tree.
-use Rattle.std.proofs.Common.{◌≡◌, ℕ, Bool, List, [], ◌∷◌, ◌+◌, Option, Some, None, map, refl, ap, sym, ◌∙◌}
+use Rattle.std.proofs.Common.{◌≡◌, ℕ, Bool, List, [], ◌∷◌, ◌+◌, Option, Some, None, map, ◌-◌, refl, ap, sym, ◌∙◌, arith}
 use Rattle.std.specs.List.{sum_by}
 use Rattle.std.proofs.lemmas.List.Sums.{sum_by-cons}
-use Rattle.js_ast.specs.declared.expression.Expr.{Expr, fold-Expr, fold-roll-Expr, roll-Expr, map-Expr}
+use Rattle.js_ast.specs.declared.expression.Expr.{Expr, fold-Expr, fold-roll-Expr, roll-Expr, out-Expr, roll-out-Expr, map-Expr}
 use Rattle.js_ast.specs.declared.expression.Expr.TheOpen.{Expr-F, Stmt-F}
 use Rattle.js_ast.specs.declared.expression.Expr.TheVariants as e
-use Rattle.js_ast.specs.declared.statement.Stmt.{Stmt, fold-Stmt, fold-roll-Stmt, roll-Stmt, map-Stmt}
+use Rattle.js_ast.specs.declared.statement.Stmt.{Stmt, fold-Stmt, fold-roll-Stmt, roll-Stmt, out-Stmt, roll-out-Stmt, map-Stmt}
 use Rattle.js_ast.specs.declared.statement.Stmt.TheVariants as s
 use Rattle.js_ast.specs.declared.statement.Arm.{Arm, fold-Arm, out-Arm, fold_out-Arm}
 use Rattle.js_ast.specs.declared.operators.BinaryOp.{BinaryOp}
@@ -28,7 +28,7 @@ use Rattle.js_ast.specs.declared.parts.Declarator.{Declarator}
 use Rattle.js_ast.specs.declared.parts.LoopHead.{LoopHead}
 use Rattle.js_ast.specs.declared.parts.LoopHead.TheVariants as head
 use Rattle.js_ast.specs.declared.parts.Catch.{Catch}
-use Rattle.js_early.specs.Weight.{of_expr, of_stmt, of_arm, of_member, of_suffix, sum_all, of_optional, expr_weight, stmt_weight, arm_weight, exprs_weight, optional_weight, suffix_weight, target_weight, member_weight, links_weight, declarators_weight, stmts_weight, arms_weight, alternate_weight, head_weight, catch_weight, last_weight}
+use Rattle.js_early.specs.Weight.{of_expr, of_stmt, of_arm, of_member, of_suffix, sum_all, of_optional, expr_weight, stmt_weight, arm_weight, expr_below, stmt_below, exprs_weight, optional_weight, suffix_weight, target_weight, member_weight, links_weight, declarators_weight, stmts_weight, arms_weight, alternate_weight, head_weight, catch_weight, last_weight}
 use Rattle.js_early.proofs.Opens.{option_cases, member_cases, access_cases, suffix_cases, declarator_cases}
 
 expr_folds : (f : Expr-F Expr Stmt Arm) → fold-Expr ℕ ℕ ℕ of_expr of_stmt of_arm (roll-Expr f) ≡ of_expr (map-Expr Expr Stmt Arm ℕ ℕ ℕ (fold-Expr ℕ ℕ ℕ of_expr of_stmt of_arm) (fold-Stmt ℕ ℕ ℕ of_expr of_stmt of_arm) (fold-Arm ℕ ℕ ℕ of_expr of_stmt of_arm) f)
@@ -51,6 +51,12 @@ sum_through h v k same (x ∷ xs) = sum_by-cons h (v x) (map v xs) ∙ plus (sam
 
 sum_of : {A : Type 0} (k : A → ℕ) (xs : List A) → sum_all (map k xs) ≡ sum_by k xs
 sum_of k xs = sum_through (λ (n : ℕ). n) k k (λ x. refl) xs
+
+less_one : (n : ℕ) → 1 + n - 1 ≡ n
+less_one n = omega arith
+
+pub weight_both : (n a b : ℕ) → n + (a + b) ≡ n + a + b
+weight_both n a b = omega arith
 
 -- ---- trees
 
@@ -218,8 +224,166 @@ pub arm_weighs : (a : Arm) → arm_weight a ≡ expr_weight (out-Arm a).test + s
 unfolding expr_weight stmt_weight arm_weight
 arm_weighs a = fold_out-Arm ℕ ℕ ℕ of_expr of_stmt of_arm a
 
+-- ---- what is below them
+
+pub expr_below_Name : (n : Identifier) → expr_below (e.Name n) ≡ 0
+unfolding expr_below
+expr_below_Name n = ap (λ (n : ℕ). n - 1) (expr_weighs_Name n) ∙ less_one _
+
+pub expr_below_Number : (site : ℕ) (v : ℕ) → expr_below (e.Number site v) ≡ 0
+unfolding expr_below
+expr_below_Number site v = ap (λ (n : ℕ). n - 1) (expr_weighs_Number site v) ∙ less_one _
+
+pub expr_below_Text : (site : ℕ) (v : List ℕ) → expr_below (e.Text site v) ≡ 0
+unfolding expr_below
+expr_below_Text site v = ap (λ (n : ℕ). n - 1) (expr_weighs_Text site v) ∙ less_one _
+
+pub expr_below_Null : (site : ℕ) → expr_below (e.Null site) ≡ 0
+unfolding expr_below
+expr_below_Null site = ap (λ (n : ℕ). n - 1) (expr_weighs_Null site) ∙ less_one _
+
+pub expr_below_True : (site : ℕ) → expr_below (e.True site) ≡ 0
+unfolding expr_below
+expr_below_True site = ap (λ (n : ℕ). n - 1) (expr_weighs_True site) ∙ less_one _
+
+pub expr_below_False : (site : ℕ) → expr_below (e.False site) ≡ 0
+unfolding expr_below
+expr_below_False site = ap (λ (n : ℕ). n - 1) (expr_weighs_False site) ∙ less_one _
+
+pub expr_below_This : (site : ℕ) → expr_below (e.This site) ≡ 0
+unfolding expr_below
+expr_below_This site = ap (λ (n : ℕ). n - 1) (expr_weighs_This site) ∙ less_one _
+
+pub expr_below_Array : (site : ℕ) (items : List Expr) → expr_below (e.Array site items) ≡ exprs_weight items
+unfolding expr_below
+expr_below_Array site items = ap (λ (n : ℕ). n - 1) (expr_weighs_Array site items) ∙ less_one _
+
+pub expr_below_FunctionExpression : (site : ℕ) (name : Option Identifier) (parameters : List Identifier) (ss : List Stmt) → expr_below (e.FunctionExpression site name parameters ss) ≡ stmts_weight ss
+unfolding expr_below
+expr_below_FunctionExpression site name parameters ss = ap (λ (n : ℕ). n - 1) (expr_weighs_FunctionExpression site name parameters ss) ∙ less_one _
+
+pub expr_below_Arrow : (site : ℕ) (parameters : List Identifier) (value : Expr) → expr_below (e.Arrow site parameters value) ≡ expr_weight value
+unfolding expr_below
+expr_below_Arrow site parameters value = ap (λ (n : ℕ). n - 1) (expr_weighs_Arrow site parameters value) ∙ less_one _
+
+pub expr_below_ArrowBlock : (site : ℕ) (parameters : List Identifier) (ss : List Stmt) → expr_below (e.ArrowBlock site parameters ss) ≡ stmts_weight ss
+unfolding expr_below
+expr_below_ArrowBlock site parameters ss = ap (λ (n : ℕ). n - 1) (expr_weighs_ArrowBlock site parameters ss) ∙ less_one _
+
+pub expr_below_New : (site : ℕ) (name : Identifier) (arguments : List Expr) → expr_below (e.New site name arguments) ≡ exprs_weight arguments
+unfolding expr_below
+expr_below_New site name arguments = ap (λ (n : ℕ). n - 1) (expr_weighs_New site name arguments) ∙ less_one _
+
+pub expr_below_Unary : (site : ℕ) (op : UnaryOp) (operand : Expr) → expr_below (e.Unary site op operand) ≡ expr_weight operand
+unfolding expr_below
+expr_below_Unary site op operand = ap (λ (n : ℕ). n - 1) (expr_weighs_Unary site op operand) ∙ less_one _
+
+pub expr_below_Conditional : (start : ℕ) (site : ℕ) (test : Expr) (a : Expr) (b : Expr) → expr_below (e.Conditional start site test a b) ≡ (expr_weight test + (expr_weight a + expr_weight b))
+unfolding expr_below
+expr_below_Conditional start site test a b = ap (λ (n : ℕ). n - 1) (expr_weighs_Conditional start site test a b) ∙ less_one _
+
+pub stmt_below_Block : (site : ℕ) (ss : List Stmt) → stmt_below (s.Block site ss) ≡ stmts_weight ss
+unfolding stmt_below
+stmt_below_Block site ss = ap (λ (n : ℕ). n - 1) (stmt_weighs_Block site ss) ∙ less_one _
+
+pub stmt_below_Nothing : (site : ℕ) → stmt_below (s.Nothing site) ≡ 0
+unfolding stmt_below
+stmt_below_Nothing site = ap (λ (n : ℕ). n - 1) (stmt_weighs_Nothing site) ∙ less_one _
+
+pub stmt_below_Express : (site : ℕ) (x : Expr) → stmt_below (s.Express site x) ≡ expr_weight x
+unfolding stmt_below
+stmt_below_Express site x = ap (λ (n : ℕ). n - 1) (stmt_weighs_Express site x) ∙ less_one _
+
+pub stmt_below_While : (site : ℕ) (test : Expr) (x : Stmt) → stmt_below (s.While site test x) ≡ (expr_weight test + stmt_weight x)
+unfolding stmt_below
+stmt_below_While site test x = ap (λ (n : ℕ). n - 1) (stmt_weighs_While site test x) ∙ less_one _
+
+pub stmt_below_Do : (site : ℕ) (x : Stmt) (test_site : ℕ) (test : Expr) → stmt_below (s.Do site x test_site test) ≡ (stmt_weight x + expr_weight test)
+unfolding stmt_below
+stmt_below_Do site x test_site test = ap (λ (n : ℕ). n - 1) (stmt_weighs_Do site x test_site test) ∙ less_one _
+
+pub stmt_below_ForOf : (site : ℕ) (kind : DeclarationKind) (name : Identifier) (items : Expr) (x : Stmt) → stmt_below (s.ForOf site kind name items x) ≡ (expr_weight items + stmt_weight x)
+unfolding stmt_below
+stmt_below_ForOf site kind name items x = ap (λ (n : ℕ). n - 1) (stmt_weighs_ForOf site kind name items x) ∙ less_one _
+
+pub stmt_below_Break : (site : ℕ) → stmt_below (s.Break site) ≡ 0
+unfolding stmt_below
+stmt_below_Break site = ap (λ (n : ℕ). n - 1) (stmt_weighs_Break site) ∙ less_one _
+
+pub stmt_below_Continue : (site : ℕ) → stmt_below (s.Continue site) ≡ 0
+unfolding stmt_below
+stmt_below_Continue site = ap (λ (n : ℕ). n - 1) (stmt_weighs_Continue site) ∙ less_one _
+
+pub stmt_below_Throw : (site : ℕ) (value : Expr) → stmt_below (s.Throw site value) ≡ expr_weight value
+unfolding stmt_below
+stmt_below_Throw site value = ap (λ (n : ℕ). n - 1) (stmt_weighs_Throw site value) ∙ less_one _
+
+pub expr_below_Object : (site : ℕ) (members : List (Member Expr)) → expr_below (e.Object site members) ≡ sum_by member_weight members
+unfolding expr_below
+expr_below_Object site members = ap (λ (n : ℕ). n - 1) (expr_weighs_Object site members) ∙ less_one _
+
+pub expr_below_Call : (first : Expr) (suffixes : List (Suffix Expr)) → expr_below (e.Call first suffixes) ≡ (expr_weight first + sum_by suffix_weight suffixes)
+unfolding expr_below
+expr_below_Call first suffixes = ap (λ (n : ℕ). n - 1) (expr_weighs_Call first suffixes) ∙ less_one _
+
+pub expr_below_Step : (start : ℕ) (site : ℕ) (op : StepOp) (is_prefix : Bool) (x : Target Expr) → expr_below (e.Step start site op is_prefix x) ≡ target_weight x
+unfolding expr_below
+expr_below_Step start site op is_prefix x = ap (λ (n : ℕ). n - 1) (expr_weighs_Step start site op is_prefix x) ∙ less_one _
+
+pub expr_below_Binary : (first : Expr) (links : List (Link BinaryOp Expr)) → expr_below (e.Binary first links) ≡ (expr_weight first + links_weight links)
+unfolding expr_below
+expr_below_Binary first links = ap (λ (n : ℕ). n - 1) (expr_weighs_Binary first links) ∙ less_one _
+
+pub expr_below_Logical : (first : Expr) (links : List (Link LogicalOp Expr)) → expr_below (e.Logical first links) ≡ (expr_weight first + links_weight links)
+unfolding expr_below
+expr_below_Logical first links = ap (λ (n : ℕ). n - 1) (expr_weighs_Logical first links) ∙ less_one _
+
+pub expr_below_Assign : (start : ℕ) (site : ℕ) (op : Option BinaryOp) (x : Target Expr) (value : Expr) → expr_below (e.Assign start site op x value) ≡ (target_weight x + expr_weight value)
+unfolding expr_below
+expr_below_Assign start site op x value = ap (λ (n : ℕ). n - 1) (expr_weighs_Assign start site op x value) ∙ less_one _
+
+pub stmt_below_Declare : (site : ℕ) (kind : DeclarationKind) (ds : List (Declarator Expr)) → stmt_below (s.Declare site kind ds) ≡ declarators_weight ds
+unfolding stmt_below
+stmt_below_Declare site kind ds = ap (λ (n : ℕ). n - 1) (stmt_weighs_Declare site kind ds) ∙ less_one _
+
+pub stmt_below_Function : (site : ℕ) (name : Identifier) (parameters : List Identifier) (ss : List Stmt) → stmt_below (s.Function site name parameters ss) ≡ stmts_weight ss
+unfolding stmt_below
+stmt_below_Function site name parameters ss = ap (λ (n : ℕ). n - 1) (stmt_weighs_Function site name parameters ss) ∙ less_one _
+
+pub stmt_below_If : (arms : List Arm) (other : Option Stmt) → stmt_below (s.If arms other) ≡ (arms_weight arms + alternate_weight other)
+unfolding stmt_below
+stmt_below_If arms other = ap (λ (n : ℕ). n - 1) (stmt_weighs_If arms other) ∙ less_one _
+
+pub stmt_below_For : (site : ℕ) (h : LoopHead Expr) (test : Option Expr) (update : Option Expr) (x : Stmt) → stmt_below (s.For site h test update x) ≡ (head_weight h + (optional_weight test + (optional_weight update + stmt_weight x)))
+unfolding stmt_below
+stmt_below_For site h test update x = ap (λ (n : ℕ). n - 1) (stmt_weighs_For site h test update x) ∙ less_one _
+
+pub stmt_below_Return : (site : ℕ) (value : Option Expr) → stmt_below (s.Return site value) ≡ optional_weight value
+unfolding stmt_below
+stmt_below_Return site value = ap (λ (n : ℕ). n - 1) (stmt_weighs_Return site value) ∙ less_one _
+
+pub stmt_below_Try : (site : ℕ) (ss : List Stmt) (h : Option (Catch (List Stmt))) (last : Option (List Stmt)) → stmt_below (s.Try site ss h last) ≡ (stmts_weight ss + (catch_weight h + last_weight last))
+unfolding stmt_below
+stmt_below_Try site ss h last = ap (λ (n : ℕ). n - 1) (stmt_weighs_Try site ss h last) ∙ less_one _
+
+-- ---- each has itself
+
+expr_rolled : (f : Expr-F Expr Stmt Arm) → expr_weight (roll-Expr f) ≡ 1 + expr_below (roll-Expr f)
+unfolding expr_weight stmt_weight arm_weight expr_below
+expr_rolled f = expr_folds f ∙ sym (ap (λ (n : ℕ). 1 + (n - 1)) (expr_folds f) ∙ one_more (less_one _))
+
+pub expr_itself : (e : Expr) → expr_weight e ≡ 1 + expr_below e
+expr_itself e = ap expr_weight (sym (roll-out-Expr e)) ∙ expr_rolled (out-Expr e) ∙ ap (λ (x : Expr). 1 + expr_below x) (roll-out-Expr e)
+
+stmt_rolled : (f : Stmt-F Expr Stmt Arm) → stmt_weight (roll-Stmt f) ≡ 1 + stmt_below (roll-Stmt f)
+unfolding expr_weight stmt_weight arm_weight stmt_below
+stmt_rolled f = stmt_folds f ∙ sym (ap (λ (n : ℕ). 1 + (n - 1)) (stmt_folds f) ∙ one_more (less_one _))
+
+pub stmt_itself : (s : Stmt) → stmt_weight s ≡ 1 + stmt_below s
+stmt_itself s = ap stmt_weight (sym (roll-out-Stmt s)) ∙ stmt_rolled (out-Stmt s) ∙ ap (λ (x : Stmt). 1 + stmt_below x) (roll-out-Stmt s)
+
 -- ---- all of them
 
-pub ruleset stmt_weighs = (stmt_weighs_Block, stmt_weighs_Nothing, stmt_weighs_Declare, stmt_weighs_Function, stmt_weighs_Express, stmt_weighs_If, stmt_weighs_While, stmt_weighs_Do, stmt_weighs_For, stmt_weighs_ForOf, stmt_weighs_Break, stmt_weighs_Continue, stmt_weighs_Return, stmt_weighs_Throw, stmt_weighs_Try)
+pub ruleset expr_belows = (expr_below_Name, expr_below_Number, expr_below_Text, expr_below_Null, expr_below_True, expr_below_False, expr_below_This, expr_below_Array, expr_below_FunctionExpression, expr_below_Arrow, expr_below_ArrowBlock, expr_below_New, expr_below_Unary, expr_below_Conditional, expr_below_Object, expr_below_Call, expr_below_Step, expr_below_Binary, expr_below_Logical, expr_below_Assign, weight_both)
 
-pub ruleset expr_weighs = (expr_weighs_Name, expr_weighs_Number, expr_weighs_Text, expr_weighs_Null, expr_weighs_True, expr_weighs_False, expr_weighs_This, expr_weighs_Array, expr_weighs_Object, expr_weighs_FunctionExpression, expr_weighs_Arrow, expr_weighs_ArrowBlock, expr_weighs_New, expr_weighs_Call, expr_weighs_Unary, expr_weighs_Step, expr_weighs_Binary, expr_weighs_Logical, expr_weighs_Conditional, expr_weighs_Assign)
+pub ruleset stmt_belows = (stmt_below_Block, stmt_below_Nothing, stmt_below_Express, stmt_below_While, stmt_below_Do, stmt_below_ForOf, stmt_below_Break, stmt_below_Continue, stmt_below_Throw, stmt_below_Declare, stmt_below_Function, stmt_below_If, stmt_below_For, stmt_below_Return, stmt_below_Try, weight_both)

@@ -5,7 +5,7 @@ use Rattle.js_early.specs.declared.tree.Tree.{Tree}
 use Rattle.js_early.specs.declared.tree.Tree.TheVariants as tree
 use Rattle.js_early.specs.Early.{Places, stmt_found}
 use Rattle.js_early.specs.Parts.{least_with, expr_places}
-use Rattle.js_early.specs.Weight.{expr_weight, stmt_weight}
+use Rattle.js_early.specs.Weight.{expr_weight, stmt_weight, expr_below, stmt_below}
 
 abbrev pub tree_places : Tree → Places
 tree_places (tree.Expression e) = expr_places e.now
@@ -14,6 +14,10 @@ tree_places (tree.Statement s) = (stmt_found s.now).places
 abbrev pub tree_weight : Tree → ℕ
 tree_weight (tree.Expression e) = expr_weight e.now
 tree_weight (tree.Statement s) = stmt_weight s.now
+
+abbrev pub tree_below : Tree → ℕ
+tree_below (tree.Expression e) = expr_below e.now
+tree_below (tree.Statement s) = stmt_below s.now
 
 -- the least place of those found and of those in what is left, and the weight of what is left
 pub record Known : Type 0 where

@@ -1,5 +1,5 @@
 -- How many trees a tree has, itself among them: a search of one that puts the trees directly below it in its place has less to do.
-use Rattle.std.specs.Prelude.{ℕ, ◌+◌, List, Option, Some, None}
+use Rattle.std.specs.Prelude.{ℕ, ◌+◌, ◌-◌, List, Option, Some, None}
 use Rattle.std.specs.List.{sum_by}
 use Rattle.js_ast.specs.declared.expression.Expr.{Expr, fold-Expr}
 use Rattle.js_ast.specs.declared.expression.Expr.TheOpen.{Expr-F, Stmt-F, Arm-F}
@@ -65,44 +65,50 @@ of_last (Some ss) = sum_all ss
 
 -- ---- trees
 
+abbrev pub below_expr : Expr-F ℕ ℕ ℕ → ℕ
+below_expr (Expr-F.Name n) = 0
+below_expr (Expr-F.Number site value) = 0
+below_expr (Expr-F.Text site value) = 0
+below_expr (Expr-F.Null site) = 0
+below_expr (Expr-F.True site) = 0
+below_expr (Expr-F.False site) = 0
+below_expr (Expr-F.This site) = 0
+below_expr (Expr-F.Array site items) = sum_all items
+below_expr (Expr-F.Object site members) = sum_by of_member members
+below_expr (Expr-F.FunctionExpression site name parameters ss) = sum_all ss
+below_expr (Expr-F.Arrow site parameters value) = value
+below_expr (Expr-F.ArrowBlock site parameters ss) = sum_all ss
+below_expr (Expr-F.New site name arguments) = sum_all arguments
+below_expr (Expr-F.Call first suffixes) = first + sum_by of_suffix suffixes
+below_expr (Expr-F.Unary site op operand) = operand
+below_expr (Expr-F.Step start site op is_prefix x) = of_target x
+below_expr (Expr-F.Binary first links) = first + of_links links
+below_expr (Expr-F.Logical first links) = first + of_links links
+below_expr (Expr-F.Conditional start site test a b) = test + (a + b)
+below_expr (Expr-F.Assign start site op x value) = of_target x + value
+
+abbrev pub below_stmt : Stmt-F ℕ ℕ ℕ → ℕ
+below_stmt (Stmt-F.Block site ss) = sum_all ss
+below_stmt (Stmt-F.Nothing site) = 0
+below_stmt (Stmt-F.Declare site kind ds) = of_declarators ds
+below_stmt (Stmt-F.Function site name parameters ss) = sum_all ss
+below_stmt (Stmt-F.Express site e) = e
+below_stmt (Stmt-F.If arms other) = sum_all arms + of_optional other
+below_stmt (Stmt-F.While site test s) = test + s
+below_stmt (Stmt-F.Do site s test_site test) = s + test
+below_stmt (Stmt-F.For site h test update s) = of_head h + (of_optional test + (of_optional update + s))
+below_stmt (Stmt-F.ForOf site kind name items s) = items + s
+below_stmt (Stmt-F.Break site) = 0
+below_stmt (Stmt-F.Continue site) = 0
+below_stmt (Stmt-F.Return site value) = of_optional value
+below_stmt (Stmt-F.Throw site value) = value
+below_stmt (Stmt-F.Try site ss h last) = sum_all ss + (of_catch h + of_last last)
+
 abbrev pub of_expr : Expr-F ℕ ℕ ℕ → ℕ
-of_expr (Expr-F.Name n) = 1
-of_expr (Expr-F.Number site value) = 1
-of_expr (Expr-F.Text site value) = 1
-of_expr (Expr-F.Null site) = 1
-of_expr (Expr-F.True site) = 1
-of_expr (Expr-F.False site) = 1
-of_expr (Expr-F.This site) = 1
-of_expr (Expr-F.Array site items) = 1 + (sum_all items)
-of_expr (Expr-F.Object site members) = 1 + (sum_by of_member members)
-of_expr (Expr-F.FunctionExpression site name parameters ss) = 1 + (sum_all ss)
-of_expr (Expr-F.Arrow site parameters value) = 1 + value
-of_expr (Expr-F.ArrowBlock site parameters ss) = 1 + (sum_all ss)
-of_expr (Expr-F.New site name arguments) = 1 + (sum_all arguments)
-of_expr (Expr-F.Call first suffixes) = 1 + (first + sum_by of_suffix suffixes)
-of_expr (Expr-F.Unary site op operand) = 1 + operand
-of_expr (Expr-F.Step start site op is_prefix x) = 1 + (of_target x)
-of_expr (Expr-F.Binary first links) = 1 + (first + of_links links)
-of_expr (Expr-F.Logical first links) = 1 + (first + of_links links)
-of_expr (Expr-F.Conditional start site test a b) = 1 + (test + (a + b))
-of_expr (Expr-F.Assign start site op x value) = 1 + (of_target x + value)
+of_expr f = 1 + below_expr f
 
 abbrev pub of_stmt : Stmt-F ℕ ℕ ℕ → ℕ
-of_stmt (Stmt-F.Block site ss) = 1 + (sum_all ss)
-of_stmt (Stmt-F.Nothing site) = 1
-of_stmt (Stmt-F.Declare site kind ds) = 1 + (of_declarators ds)
-of_stmt (Stmt-F.Function site name parameters ss) = 1 + (sum_all ss)
-of_stmt (Stmt-F.Express site e) = 1 + e
-of_stmt (Stmt-F.If arms other) = 1 + (sum_all arms + of_optional other)
-of_stmt (Stmt-F.While site test s) = 1 + (test + s)
-of_stmt (Stmt-F.Do site s test_site test) = 1 + (s + test)
-of_stmt (Stmt-F.For site h test update s) = 1 + (of_head h + (of_optional test + (of_optional update + s)))
-of_stmt (Stmt-F.ForOf site kind name items s) = 1 + (items + s)
-of_stmt (Stmt-F.Break site) = 1
-of_stmt (Stmt-F.Continue site) = 1
-of_stmt (Stmt-F.Return site value) = 1 + (of_optional value)
-of_stmt (Stmt-F.Throw site value) = 1 + value
-of_stmt (Stmt-F.Try site ss h last) = 1 + (sum_all ss + (of_catch h + of_last last))
+of_stmt f = 1 + below_stmt f
 
 abbrev pub of_arm : Arm-F ℕ ℕ ℕ → ℕ
 of_arm arm = arm.test + arm.consequent
@@ -115,6 +121,13 @@ stmt_weight = fold-Stmt ℕ ℕ ℕ of_expr of_stmt of_arm
 
 unfoldable pub arm_weight : Arm → ℕ
 arm_weight = fold-Arm ℕ ℕ ℕ of_expr of_stmt of_arm
+
+-- without the tree itself
+unfoldable pub expr_below : Expr → ℕ
+expr_below e = expr_weight e - 1
+
+unfoldable pub stmt_below : Stmt → ℕ
+stmt_below s = stmt_weight s - 1
 
 -- ---- parts of trees
 

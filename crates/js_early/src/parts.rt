@@ -28,10 +28,7 @@ fn in_member<'a>(member: &'a Member<Boxed<Expr>>, search: &mut Search<'a>) -> Re
 {
     match member {
         Member::Shorthand(_) => Ok(()),
-        Member::Value { value, .. } => {
-            search.expression(value.get())?;
-            Ok(())
-        }
+        Member::Value { value, .. } => search.expression(value.get()),
     }
 }
 
@@ -56,10 +53,7 @@ fn in_access<'a>(access: &'a Access<Boxed<Expr>>, search: &mut Search<'a>) -> Re
 {
     match access {
         Access::Property { .. } => Ok(()),
-        Access::Index { key, .. } => {
-            search.expression(key.get())?;
-            Ok(())
-        }
+        Access::Index { key, .. } => search.expression(key.get()),
     }
 }
 
@@ -69,14 +63,8 @@ fn in_suffix<'a>(suffix: &'a Suffix<Boxed<Expr>>, search: &mut Search<'a>) -> Re
     ensures weight { OnOk result (search.new.weight ≡ search.old.weight + suffix_weight suffix.now) }
 {
     match suffix {
-        Suffix::Access(access) => {
-            in_access(access, search)?;
-            Ok(())
-        }
-        Suffix::Call { arguments, .. } => {
-            in_exprs(arguments.as_slice(), search)?;
-            Ok(())
-        }
+        Suffix::Access(access) => in_access(access, search),
+        Suffix::Call { arguments, .. } => in_exprs(arguments.as_slice(), search),
     }
 }
 
@@ -106,8 +94,7 @@ pub fn in_target<'a>(
         Target::Name(_) => Ok(()),
         Target::Access { base, access } => {
             search.expression(base.get())?;
-            in_access(access, search)?;
-            Ok(())
+            in_access(access, search)
         }
     }
 }
@@ -136,10 +123,7 @@ pub fn in_optional<'a>(
 {
     match value {
         None => Ok(()),
-        Some(value) => {
-            search.expression(value.get())?;
-            Ok(())
-        }
+        Some(value) => search.expression(value.get()),
     }
 }
 

@@ -3,7 +3,7 @@
 ghost use Rattle.std.specs.Prelude.{◌≡◌, ◌+◌, IfOk, OnOk};
 ghost use Rattle.js_early.specs.Early.{early_places, IsLeast};
 ghost use Rattle.js_early.specs.Parts.{least_with};
-ghost use Rattle.js_early.specs.Search.{tree_places, tree_weight};
+ghost use Rattle.js_early.specs.Search.{tree_places, tree_below};
 
 use crate::expressions::in_expr;
 use crate::scopes::{Names, in_globals, in_scope};
@@ -25,7 +25,7 @@ fn offset(found: Option<u32>) -> Option<usize>
 
 fn in_tree<'a>(alloc: Global, tree: Tree<'a>, search: &mut Search<'a>) -> Result<(), NoMemory>
     ensures least { OnOk result (search.new.least ≡ least_with search.old.least (tree_places tree.entry)) }
-    ensures weight { OnOk result (search.new.weight + 1 ≡ search.old.weight + tree_weight tree.entry) }
+    ensures weight { OnOk result (search.new.weight ≡ search.old.weight + tree_below tree.entry) }
 {
     match tree {
         Tree::Expression(expr) => in_expr(alloc, expr, search),
@@ -34,6 +34,7 @@ fn in_tree<'a>(alloc: Global, tree: Tree<'a>, search: &mut Search<'a>) -> Result
 }
 
 /// Searches all that is left.
+#[tactic(auto, using(crate::proofs::Turns::tree_itself))]
 fn in_trees(alloc: Global, search: &mut Search<'_>) -> Result<Option<u32>, NoMemory>
     ensures { IfOk result (λ found. found ≡ search.old.least) }
 {

@@ -3,7 +3,7 @@
 ghost use Rattle.std.specs.Prelude.{◌≡◌, [], ◌++◌, ◌+◌, OnOk};
 ghost use Rattle.js_early.specs.Early.{stmt_found, scope, names_of};
 ghost use Rattle.js_early.specs.Parts.{least_with, arms_places, alternate_places, head_places, catch_places, last_places, stmts_places, body_places, declared_in};
-ghost use Rattle.js_early.specs.Weight.{stmt_weight, stmts_weight, arms_weight, alternate_weight, head_weight, catch_weight, last_weight};
+ghost use Rattle.js_early.specs.Weight.{stmt_below, stmts_weight, arms_weight, alternate_weight, head_weight, catch_weight, last_weight};
 
 use crate::parts::{in_declarators, in_optional};
 use crate::scopes::Names;
@@ -26,8 +26,7 @@ fn in_names(
     let mut names = Names::new(alloc);
     names.push_all(outer)?;
     names.push_body(body)?;
-    search.names(alloc, &names)?;
-    Ok(())
+    search.names(alloc, &names)
 }
 
 /// The names that the head of a loop declares.
@@ -41,8 +40,7 @@ fn in_declared(
 {
     let mut names = Names::new(alloc);
     names.push_declared(declarators)?;
-    search.names(alloc, &names)?;
-    Ok(())
+    search.names(alloc, &names)
 }
 
 /// The statements of a scope.
@@ -69,8 +67,7 @@ pub fn in_body<'a>(
     ensures weight { OnOk result (search.new.weight ≡ search.old.weight + stmts_weight body.now) }
 {
     in_names(alloc, outer, body, search)?;
-    in_stmts(body, search)?;
-    Ok(())
+    in_stmts(body, search)
 }
 
 #[tactic(auto, using(crate::proofs::Least::parts))]
@@ -84,14 +81,10 @@ fn in_head<'a>(
 {
     match head {
         LoopHead::Nothing => Ok(()),
-        LoopHead::Value(value) => {
-            search.expression(value.get())?;
-            Ok(())
-        }
+        LoopHead::Value(value) => search.expression(value.get()),
         LoopHead::Declare { declarators, .. } => {
             in_declared(alloc, declarators.as_slice(), search)?;
-            in_declarators(declarators.as_slice(), search)?;
-            Ok(())
+            in_declarators(declarators.as_slice(), search)
         }
     }
 }
@@ -118,10 +111,7 @@ fn in_alternate<'a>(
 {
     match alternate {
         None => Ok(()),
-        Some(stmt) => {
-            search.statement(stmt.get())?;
-            Ok(())
-        }
+        Some(stmt) => search.statement(stmt.get()),
     }
 }
 
@@ -136,15 +126,12 @@ fn in_catch<'a>(
 {
     match catch {
         None => Ok(()),
-        Some(handler) => {
-            in_body(
-                alloc,
-                handler.name.as_slice(),
-                handler.body.as_slice(),
-                search,
-            )?;
-            Ok(())
-        }
+        Some(handler) => in_body(
+            alloc,
+            handler.name.as_slice(),
+            handler.body.as_slice(),
+            search,
+        ),
     }
 }
 
@@ -159,40 +146,37 @@ fn in_last<'a>(
 {
     match last {
         None => Ok(()),
-        Some(body) => {
-            in_body(alloc, &[], body.as_slice(), search)?;
-            Ok(())
-        }
+        Some(body) => in_body(alloc, &[], body.as_slice(), search),
     }
 }
 
 /// The early names of a statement's own scopes, and the trees directly below it.
-#[tactic(auto, using(crate::proofs::Opens::stmt_steps, crate::proofs::Weighs::stmt_weighs))]
+#[tactic(auto, using(crate::proofs::Opens::stmt_steps, crate::proofs::Weighs::stmt_belows))]
 pub fn in_stmt<'a>(alloc: Global, stmt: &'a Stmt, search: &mut Search<'a>) -> Result<(), NoMemory>
     ensures least { OnOk result (search.new.least ≡ least_with search.old.least ((stmt_found stmt.now).places)) }
-    ensures weight { OnOk result (search.new.weight + 1 ≡ search.old.weight + stmt_weight stmt.now) }
+    ensures weight { OnOk result (search.new.weight ≡ search.old.weight + stmt_below stmt.now) }
 {
     match stmt {
-        Stmt::Nothing { .. } | Stmt::Break { .. } | Stmt::Continue { .. } => return Ok(()),
-        Stmt::Block { body, .. } => in_body(alloc, &[], body.as_slice(), search)?,
-        Stmt::Declare { declarators, .. } => in_declarators(declarators.as_slice(), search)?,
+        Stmt::Nothing { .. } | Stmt::Break { .. } | Stmt::Continue { .. } => Ok(()),
+        Stmt::Block { body, .. } => in_body(alloc, &[], body.as_slice(), search),
+        Stmt::Declare { declarators, .. } => in_declarators(declarators.as_slice(), search),
         Stmt::Function {
             parameters,
             body,
             ..
-        } => in_body(alloc, parameters.as_slice(), body.as_slice(), search)?,
-        Stmt::Express { value, .. } => search.expression(value.get())?,
+        } => in_body(alloc, parameters.as_slice(), body.as_slice(), search),
+        Stmt::Express { value, .. } => search.expression(value.get()),
         Stmt::If { arms, alternate } => {
             in_arms(arms.as_slice(), search)?;
-            in_alternate(alternate, search)?;
+            in_alternate(alternate, search)
         }
         Stmt::While { test, body, .. } => {
             search.expression(test.get())?;
-            search.statement(body.get())?;
+            search.statement(body.get())
         }
         Stmt::Do { body, test, .. } => {
             search.statement(body.get())?;
-            search.expression(test.get())?;
+            search.expression(test.get())
         }
         Stmt::For {
             head,
@@ -204,14 +188,14 @@ pub fn in_stmt<'a>(alloc: Global, stmt: &'a Stmt, search: &mut Search<'a>) -> Re
             in_head(alloc, head, search)?;
             in_optional(test, search)?;
             in_optional(update, search)?;
-            search.statement(body.get())?;
+            search.statement(body.get())
         }
         Stmt::ForOf { items, body, .. } => {
             search.expression(items.get())?;
-            search.statement(body.get())?;
+            search.statement(body.get())
         }
-        Stmt::Return { value, .. } => in_optional(value, search)?,
-        Stmt::Throw { value, .. } => search.expression(value.get())?,
+        Stmt::Return { value, .. } => in_optional(value, search),
+        Stmt::Throw { value, .. } => search.expression(value.get()),
         Stmt::Try {
             body,
             catch,
@@ -220,8 +204,7 @@ pub fn in_stmt<'a>(alloc: Global, stmt: &'a Stmt, search: &mut Search<'a>) -> Re
         } => {
             in_body(alloc, &[], body.as_slice(), search)?;
             in_catch(alloc, catch, search)?;
-            in_last(alloc, finally, search)?;
+            in_last(alloc, finally, search)
         }
     }
-    Ok(())
 }
