@@ -9,7 +9,6 @@ use sqlite_items::{Boxed, Items};
 /// An expression (ECMA-262, section 13). Its first token stands at `start`, or at the site where that isn't told.
 /// Parentheses leave no trace.
 #[cycle(trees)]
-#[derive(Drop)]
 pub enum Expr {
     /// A name that is read
     Name(Identifier),
@@ -114,4 +113,101 @@ pub enum Expr {
         target: Target<Boxed<Expr>>,
         value: Boxed<Expr>,
     },
+}
+
+// By hand, so that no crate above takes a tree apart to let it go.
+impl Drop for Expr {
+    #[cycle(drops)]
+    fn drop(self) {
+        match self {
+            Expr::Name(name) => drop(name),
+            Expr::Number { site: _, value: _ }
+            | Expr::Null { site: _ }
+            | Expr::True { site: _ }
+            | Expr::False { site: _ }
+            | Expr::This { site: _ } => {}
+            Expr::Text { site: _, value } => drop(value),
+            Expr::Array { site: _, items } => drop(items),
+            Expr::Object { site: _, members } => drop(members),
+            Expr::FunctionExpression {
+                site: _,
+                name,
+                parameters,
+                body,
+            } => {
+                drop(name);
+                drop(parameters);
+                drop(body);
+            }
+            Expr::Arrow {
+                site: _,
+                parameters,
+                value,
+            } => {
+                drop(parameters);
+                drop(value);
+            }
+            Expr::ArrowBlock {
+                site: _,
+                parameters,
+                body,
+            } => {
+                drop(parameters);
+                drop(body);
+            }
+            Expr::New {
+                site: _,
+                name,
+                arguments,
+            } => {
+                drop(name);
+                drop(arguments);
+            }
+            Expr::Call { first, suffixes } => {
+                drop(first);
+                drop(suffixes);
+            }
+            Expr::Unary {
+                site: _,
+                op: _,
+                operand,
+            } => drop(operand),
+            Expr::Step {
+                start: _,
+                site: _,
+                op: _,
+                is_prefix: _,
+                target,
+            } => drop(target),
+            Expr::Binary { first, links } => {
+                drop(first);
+                drop(links);
+            }
+            Expr::Logical { first, links } => {
+                drop(first);
+                drop(links);
+            }
+            Expr::Conditional {
+                start: _,
+                site: _,
+                test,
+                consequent,
+                alternate,
+            } => {
+                drop(test);
+                drop(consequent);
+                drop(alternate);
+            }
+            Expr::Assign {
+                start: _,
+                site: _,
+                op: _,
+                target,
+                value,
+            } => {
+                drop(target);
+                drop(value);
+            }
+        }
+    }
 }

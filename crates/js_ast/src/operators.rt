@@ -1,7 +1,7 @@
 //! Operators, one variant for each token.
 
 /// What stands before its operand (ECMA-262, section 13.5), but for `++` and `--`.
-#[derive(Clone, Copy, Debug, PartialEq, Eq)]
+#[derive(Clone, Copy)]
 pub enum UnaryOp {
     /// `+`
     Plus,
@@ -73,7 +73,7 @@ pub enum LogicalOp {
 }
 
 /// `let` and `const` (ECMA-262, section 14.3.1).
-#[derive(Clone, Copy, Debug, PartialEq, Eq)]
+#[derive(Clone, Copy)]
 pub enum DeclarationKind {
     Let,
     Const,

@@ -7,7 +7,6 @@ use sqlite_items::{Boxed, Items};
 
 /// A statement (ECMA-262, section 14), at the site of its first token.
 #[cycle(trees)]
-#[derive(Drop)]
 pub enum Stmt {
     /// `{` statements `}`
     Block {
@@ -92,11 +91,105 @@ pub enum Stmt {
 
 /// `if`, its test and what is done where that holds, at the site of the word (section 14.6).
 #[cycle(trees)]
-#[derive(Drop)]
 pub struct Arm {
     pub site: u32,
     pub test: Boxed<Expr>,
     pub consequent: Boxed<Stmt>,
+}
+
+impl Drop for Stmt {
+    #[cycle(drops)]
+    fn drop(self) {
+        match self {
+            Stmt::Block { site: _, body } => drop(body),
+            Stmt::Nothing { site: _ } | Stmt::Break { site: _ } | Stmt::Continue { site: _ } => {}
+            Stmt::Declare {
+                site: _,
+                kind: _,
+                declarators,
+            } => drop(declarators),
+            Stmt::Function {
+                site: _,
+                name,
+                parameters,
+                body,
+            } => {
+                drop(name);
+                drop(parameters);
+                drop(body);
+            }
+            Stmt::Express { site: _, value } => drop(value),
+            Stmt::If { arms, alternate } => {
+                drop(arms);
+                drop(alternate);
+            }
+            Stmt::While {
+                site: _,
+                test,
+                body,
+            } => {
+                drop(test);
+                drop(body);
+            }
+            Stmt::Do {
+                site: _,
+                body,
+                test_site: _,
+                test,
+            } => {
+                drop(body);
+                drop(test);
+            }
+            Stmt::For {
+                site: _,
+                head,
+                test,
+                update,
+                body,
+            } => {
+                drop(head);
+                drop(test);
+                drop(update);
+                drop(body);
+            }
+            Stmt::ForOf {
+                site: _,
+                kind: _,
+                name,
+                items,
+                body,
+            } => {
+                drop(name);
+                drop(items);
+                drop(body);
+            }
+            Stmt::Return { site: _, value } => drop(value),
+            Stmt::Throw { site: _, value } => drop(value),
+            Stmt::Try {
+                site: _,
+                body,
+                catch,
+                finally,
+            } => {
+                drop(body);
+                drop(catch);
+                drop(finally);
+            }
+        }
+    }
+}
+
+impl Drop for Arm {
+    #[cycle(drops)]
+    fn drop(self) {
+        let Arm {
+            site: _,
+            test,
+            consequent,
+        } = self;
+        drop(test);
+        drop(consequent);
+    }
 }
 
 /// A whole script (ECMA-262, section 16.1).

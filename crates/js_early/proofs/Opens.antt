@@ -58,23 +58,23 @@ found ns ps = record { declared = ns; places = ps }
 found_both : {ns ms : List Identifier} {ps qs : Places} → ns ≡ ms → ps ≡ qs → found ns ps ≡ found ms qs
 found_both {ms} {ps} p q = ap (λ (ns : List Identifier). found ns ps) p ∙ ap (λ (ps : Places). found ms ps) q
 
-option_cases : {A : Type 0} (P : Option A → Type 0) → P None → ((x : A) → P (Some x)) → (o : Option A) → P o
+pub option_cases : {A : Type 0} (P : Option A → Type 0) → P None → ((x : A) → P (Some x)) → (o : Option A) → P o
 option_cases P none some None = none
 option_cases P none some (Some x) = some x
 
-member_cases : (P : Member Expr → Type 0) → ((site : ℕ) (key : Key) (value : Expr) → P (member.Value site key value)) → ((n : Identifier) → P (member.Shorthand n)) → (m : Member Expr) → P m
+pub member_cases : (P : Member Expr → Type 0) → ((site : ℕ) (key : Key) (value : Expr) → P (member.Value site key value)) → ((n : Identifier) → P (member.Shorthand n)) → (m : Member Expr) → P m
 member_cases P value short (member.Value site key x) = value site key x
 member_cases P value short (member.Shorthand n) = short n
 
-access_cases : (P : Access Expr → Type 0) → ((site : ℕ) (name : List ℕ) → P (access.Property site name)) → ((site : ℕ) (is_static : Bool) (key : Expr) → P (access.Index site is_static key)) → (a : Access Expr) → P a
+pub access_cases : (P : Access Expr → Type 0) → ((site : ℕ) (name : List ℕ) → P (access.Property site name)) → ((site : ℕ) (is_static : Bool) (key : Expr) → P (access.Index site is_static key)) → (a : Access Expr) → P a
 access_cases P property index (access.Property site name) = property site name
 access_cases P property index (access.Index site is_static key) = index site is_static key
 
-suffix_cases : (P : Suffix Expr → Type 0) → ((a : Access Expr) → P (suffix.Access a)) → ((site : ℕ) (arguments : List Expr) → P (suffix.Call site arguments)) → (x : Suffix Expr) → P x
+pub suffix_cases : (P : Suffix Expr → Type 0) → ((a : Access Expr) → P (suffix.Access a)) → ((site : ℕ) (arguments : List Expr) → P (suffix.Call site arguments)) → (x : Suffix Expr) → P x
 suffix_cases P an_access call (suffix.Access a) = an_access a
 suffix_cases P an_access call (suffix.Call site arguments) = call site arguments
 
-declarator_cases : (P : Declarator Expr → Type 0) → ((n : Identifier) → P (record { name = n; value = None })) → ((n : Identifier) (e : Expr) → P (record { name = n; value = Some e })) → (d : Declarator Expr) → P d
+pub declarator_cases : (P : Declarator Expr → Type 0) → ((n : Identifier) → P (record { name = n; value = None })) → ((n : Identifier) (e : Expr) → P (record { name = n; value = Some e })) → (d : Declarator Expr) → P d
 declarator_cases P none some d = option_cases (λ o. P (record { name = d.name; value = o })) (none d.name) (some d.name) d.value
 
 pub body_of : (names : List Identifier) (ss : List Stmt) → body names (map stmt_found ss) ≡ body_places names ss

@@ -1,51 +1,37 @@
 //! Early names in expressions.
 
-ghost use Rattle.std.specs.Prelude.{◌≡◌, OnOk};
+ghost use Rattle.std.specs.Prelude.{◌≡◌, ◌+◌, OnOk};
 ghost use Rattle.js_early.specs.Early.{scope};
-ghost use Rattle.js_early.specs.Parts.{least_with, expr_places, exprs_places};
+ghost use Rattle.js_early.specs.Parts.{least_with, expr_places};
+ghost use Rattle.js_early.specs.Weight.{expr_below};
 
-use crate::parts::{in_conditions, in_members, in_operands, in_suffixes, in_target};
-use crate::scopes::{Names, in_scope};
+use crate::parts::{in_exprs, in_links, in_members, in_suffixes, in_target};
+use crate::scopes::Names;
+use crate::search::Search;
 use crate::statements::in_body;
 use js_ast::{Expr, Identifier};
 use js_units::NoMemory;
-use sqlite_items::{Boxed, Items};
 use std::alloc::Global;
 
 /// The names that an arrow declares for its one expression.
-fn in_parameters(
+fn in_parameters<'a>(
     alloc: Global,
     parameters: &[Identifier],
-    found: &mut Option<u32>,
+    search: &mut Search<'a>,
 ) -> Result<(), NoMemory>
-    ensures { OnOk result (found.new ≡ least_with found.old (scope parameters.now)) }
+    ensures least { OnOk result (search.new.least ≡ least_with search.old.least (scope parameters.now)) }
+    ensures weight { OnOk result (search.new.weight ≡ search.old.weight) }
 {
     let mut names = Names::new(alloc);
     names.push_all(parameters)?;
-    in_scope(alloc, &names, found)?;
-    Ok(())
+    search.names(alloc, &names)
 }
 
-#[cycle(early)]
-#[tactic(auto, using(crate::proofs::Least::parts))]
-pub fn in_exprs(
-    alloc: Global,
-    exprs: &Items<Boxed<Expr>>,
-    found: &mut Option<u32>,
-) -> Result<(), NoMemory>
-    ensures { OnOk result (found.new ≡ least_with found.old (exprs_places exprs.now)) }
-{
-    for expr in exprs.as_slice() {
-        in_expr(alloc, expr.get(), found)?;
-    }
-    Ok(())
-}
-
-/// Nests as deep as the expression.
-#[cycle(early)]
-#[tactic(auto, using(crate::proofs::Opens::expr_steps))]
-pub fn in_expr(alloc: Global, expr: &Expr, found: &mut Option<u32>) -> Result<(), NoMemory>
-    ensures { OnOk result (found.new ≡ least_with found.old (expr_places expr.now)) }
+/// The early names of an expression's own scopes, and the trees directly below it.
+#[tactic(auto, using(crate::proofs::Opens::expr_steps, crate::proofs::Weighs::expr_belows))]
+pub fn in_expr<'a>(alloc: Global, expr: &'a Expr, search: &mut Search<'a>) -> Result<(), NoMemory>
+    ensures least { OnOk result (search.new.least ≡ least_with search.old.least (expr_places expr.now)) }
+    ensures weight { OnOk result (search.new.weight ≡ search.old.weight + expr_below expr.now) }
 {
     match expr {
         Expr::Name(_)
@@ -54,41 +40,41 @@ pub fn in_expr(alloc: Global, expr: &Expr, found: &mut Option<u32>) -> Result<()
         | Expr::Null { .. }
         | Expr::True { .. }
         | Expr::False { .. }
-        | Expr::This { .. } => return Ok(()),
-        Expr::Array { items, .. } => in_exprs(alloc, items, found)?,
-        Expr::Object { members, .. } => in_members(alloc, members, found)?,
+        | Expr::This { .. } => Ok(()),
+        Expr::Array { items, .. } => in_exprs(items.as_slice(), search),
+        Expr::Object { members, .. } => in_members(members.as_slice(), search),
         Expr::FunctionExpression {
             parameters,
             body,
             ..
-        } => in_body(alloc, parameters.as_slice(), body.as_slice(), found)?,
+        } => in_body(alloc, parameters.as_slice(), body.as_slice(), search),
         Expr::Arrow {
             parameters,
             value,
             ..
         } => {
-            in_parameters(alloc, parameters.as_slice(), found)?;
-            in_expr(alloc, value.get(), found)?;
+            in_parameters(alloc, parameters.as_slice(), search)?;
+            search.expression(value.get())
         }
         Expr::ArrowBlock {
             parameters,
             body,
             ..
-        } => in_body(alloc, parameters.as_slice(), body.as_slice(), found)?,
-        Expr::New { arguments, .. } => in_exprs(alloc, arguments, found)?,
+        } => in_body(alloc, parameters.as_slice(), body.as_slice(), search),
+        Expr::New { arguments, .. } => in_exprs(arguments.as_slice(), search),
         Expr::Call { first, suffixes } => {
-            in_expr(alloc, first.get(), found)?;
-            in_suffixes(alloc, suffixes, found)?;
+            search.expression(first.get())?;
+            in_suffixes(suffixes.as_slice(), search)
         }
-        Expr::Unary { operand, .. } => in_expr(alloc, operand.get(), found)?,
-        Expr::Step { target, .. } => in_target(alloc, target, found)?,
+        Expr::Unary { operand, .. } => search.expression(operand.get()),
+        Expr::Step { target, .. } => in_target(target, search),
         Expr::Binary { first, links } => {
-            in_expr(alloc, first.get(), found)?;
-            in_operands(alloc, links, found)?;
+            search.expression(first.get())?;
+            in_links(links.as_slice(), search)
         }
         Expr::Logical { first, links } => {
-            in_expr(alloc, first.get(), found)?;
-            in_conditions(alloc, links, found)?;
+            search.expression(first.get())?;
+            in_links(links.as_slice(), search)
         }
         Expr::Conditional {
             test,
@@ -96,14 +82,13 @@ pub fn in_expr(alloc: Global, expr: &Expr, found: &mut Option<u32>) -> Result<()
             alternate,
             ..
         } => {
-            in_expr(alloc, test.get(), found)?;
-            in_expr(alloc, consequent.get(), found)?;
-            in_expr(alloc, alternate.get(), found)?;
+            search.expression(test.get())?;
+            search.expression(consequent.get())?;
+            search.expression(alternate.get())
         }
         Expr::Assign { target, value, .. } => {
-            in_target(alloc, target, found)?;
-            in_expr(alloc, value.get(), found)?;
+            in_target(target, search)?;
+            search.expression(value.get())
         }
     }
-    Ok(())
 }

@@ -5,6 +5,8 @@ mod expressions;
 mod parts;
 mod scopes;
 mod script;
+mod search;
 mod statements;
+mod tree;
 
 pub use script::early_name;

@@ -1,180 +1,142 @@
-//! Early names in the parts of expressions and declarations.
+//! The parts of expressions and declarations, whose trees are put before a search.
 
-ghost use Rattle.std.specs.Prelude.{◌≡◌, OnOk};
-ghost use Rattle.std.specs.List.{flat_map};
-ghost use Rattle.js_early.specs.Parts.{least_with, optional_places, access_places, suffix_places, target_places, member_places, links_places, declarators_places};
+ghost use Rattle.std.specs.Prelude.{◌≡◌, ◌+◌, OnOk};
+ghost use Rattle.std.specs.List.{flat_map, sum_by};
+ghost use Rattle.js_early.specs.Parts.{least_with, exprs_places, optional_places, access_places, suffix_places, target_places, member_places, links_places, declarators_places};
+ghost use Rattle.js_early.specs.Weight.{exprs_weight, optional_weight, access_weight, suffix_weight, target_weight, member_weight, links_weight, declarators_weight};
 
-use crate::expressions::{in_expr, in_exprs};
-use js_ast::{Access, BinaryOp, Declarator, Expr, Link, LogicalOp, Member, Suffix, Target};
+use crate::search::Search;
+use js_ast::{Access, Declarator, Expr, Link, Member, Suffix, Target};
 use js_units::NoMemory;
-use sqlite_items::{Boxed, Items};
-use std::alloc::Global;
+use sqlite_items::Boxed;
 
-#[cycle(early)]
+#[tactic(auto, using(crate::proofs::Turns::turns))]
+pub fn in_exprs<'a>(exprs: &'a [Boxed<Expr>], search: &mut Search<'a>) -> Result<(), NoMemory>
+    ensures least { OnOk result (search.new.least ≡ least_with search.old.least (exprs_places exprs.now)) }
+    ensures weight { OnOk result (search.new.weight ≡ search.old.weight + exprs_weight exprs.now) }
+{
+    for expr in exprs {
+        search.expression(expr.get())?;
+    }
+    Ok(())
+}
+
 #[tactic(auto, using(crate::proofs::Least::parts))]
-fn in_member(
-    alloc: Global,
-    member: &Member<Boxed<Expr>>,
-    found: &mut Option<u32>,
-) -> Result<(), NoMemory>
-    ensures { OnOk result (found.new ≡ least_with found.old (member_places member.now)) }
+fn in_member<'a>(member: &'a Member<Boxed<Expr>>, search: &mut Search<'a>) -> Result<(), NoMemory>
+    ensures least { OnOk result (search.new.least ≡ least_with search.old.least (member_places member.now)) }
+    ensures weight { OnOk result (search.new.weight ≡ search.old.weight + member_weight member.now) }
 {
     match member {
         Member::Shorthand(_) => Ok(()),
-        Member::Value { value, .. } => {
-            in_expr(alloc, value.get(), found)?;
-            Ok(())
-        }
+        Member::Value { value, .. } => search.expression(value.get()),
     }
 }
 
-#[cycle(early)]
-#[tactic(auto, using(crate::proofs::Least::parts))]
-pub fn in_members(
-    alloc: Global,
-    members: &Items<Member<Boxed<Expr>>>,
-    found: &mut Option<u32>,
+#[tactic(auto, using(crate::proofs::Turns::turns))]
+pub fn in_members<'a>(
+    members: &'a [Member<Boxed<Expr>>],
+    search: &mut Search<'a>,
 ) -> Result<(), NoMemory>
-    ensures { OnOk result (found.new ≡ least_with found.old (flat_map member_places members.now)) }
+    ensures least { OnOk result (search.new.least ≡ least_with search.old.least (flat_map member_places members.now)) }
+    ensures weight { OnOk result (search.new.weight ≡ search.old.weight + sum_by member_weight members.now) }
 {
-    for member in members.as_slice() {
-        in_member(alloc, member, found)?;
+    for member in members {
+        in_member(member, search)?;
     }
     Ok(())
 }
 
-#[cycle(early)]
 #[tactic(auto, using(crate::proofs::Least::parts))]
-fn in_access(
-    alloc: Global,
-    access: &Access<Boxed<Expr>>,
-    found: &mut Option<u32>,
-) -> Result<(), NoMemory>
-    ensures { OnOk result (found.new ≡ least_with found.old (access_places access.now)) }
+fn in_access<'a>(access: &'a Access<Boxed<Expr>>, search: &mut Search<'a>) -> Result<(), NoMemory>
+    ensures least { OnOk result (search.new.least ≡ least_with search.old.least (access_places access.now)) }
+    ensures weight { OnOk result (search.new.weight ≡ search.old.weight + access_weight access.now) }
 {
     match access {
         Access::Property { .. } => Ok(()),
-        Access::Index { key, .. } => {
-            in_expr(alloc, key.get(), found)?;
-            Ok(())
-        }
+        Access::Index { key, .. } => search.expression(key.get()),
     }
 }
 
-#[cycle(early)]
 #[tactic(auto, using(crate::proofs::Least::parts))]
-fn in_suffix(
-    alloc: Global,
-    suffix: &Suffix<Boxed<Expr>>,
-    found: &mut Option<u32>,
-) -> Result<(), NoMemory>
-    ensures { OnOk result (found.new ≡ least_with found.old (suffix_places suffix.now)) }
+fn in_suffix<'a>(suffix: &'a Suffix<Boxed<Expr>>, search: &mut Search<'a>) -> Result<(), NoMemory>
+    ensures least { OnOk result (search.new.least ≡ least_with search.old.least (suffix_places suffix.now)) }
+    ensures weight { OnOk result (search.new.weight ≡ search.old.weight + suffix_weight suffix.now) }
 {
     match suffix {
-        Suffix::Access(access) => {
-            in_access(alloc, access, found)?;
-            Ok(())
-        }
-        Suffix::Call { arguments, .. } => {
-            in_exprs(alloc, arguments, found)?;
-            Ok(())
-        }
+        Suffix::Access(access) => in_access(access, search),
+        Suffix::Call { arguments, .. } => in_exprs(arguments.as_slice(), search),
     }
 }
 
-#[cycle(early)]
-#[tactic(auto, using(crate::proofs::Least::parts))]
-pub fn in_suffixes(
-    alloc: Global,
-    suffixes: &Items<Suffix<Boxed<Expr>>>,
-    found: &mut Option<u32>,
+#[tactic(auto, using(crate::proofs::Turns::turns))]
+pub fn in_suffixes<'a>(
+    suffixes: &'a [Suffix<Boxed<Expr>>],
+    search: &mut Search<'a>,
 ) -> Result<(), NoMemory>
-    ensures { OnOk result (found.new ≡ least_with found.old (flat_map suffix_places suffixes.now)) }
+    ensures least { OnOk result (search.new.least ≡ least_with search.old.least (flat_map suffix_places suffixes.now)) }
+    ensures weight { OnOk result (search.new.weight ≡ search.old.weight + sum_by suffix_weight suffixes.now) }
 {
-    for suffix in suffixes.as_slice() {
-        in_suffix(alloc, suffix, found)?;
+    for suffix in suffixes {
+        in_suffix(suffix, search)?;
     }
     Ok(())
 }
 
-#[cycle(early)]
 #[tactic(auto, using(crate::proofs::Least::parts))]
-pub fn in_target(
-    alloc: Global,
-    target: &Target<Boxed<Expr>>,
-    found: &mut Option<u32>,
+pub fn in_target<'a>(
+    target: &'a Target<Boxed<Expr>>,
+    search: &mut Search<'a>,
 ) -> Result<(), NoMemory>
-    ensures { OnOk result (found.new ≡ least_with found.old (target_places target.now)) }
+    ensures least { OnOk result (search.new.least ≡ least_with search.old.least (target_places target.now)) }
+    ensures weight { OnOk result (search.new.weight ≡ search.old.weight + target_weight target.now) }
 {
     match target {
         Target::Name(_) => Ok(()),
         Target::Access { base, access } => {
-            in_expr(alloc, base.get(), found)?;
-            in_access(alloc, access, found)?;
-            Ok(())
+            search.expression(base.get())?;
+            in_access(access, search)
         }
     }
 }
 
-#[cycle(early)]
-#[tactic(auto, using(crate::proofs::Least::parts))]
-pub fn in_operands(
-    alloc: Global,
-    links: &Items<Link<BinaryOp, Boxed<Expr>>>,
-    found: &mut Option<u32>,
+#[tactic(auto, using(crate::proofs::Turns::turns))]
+pub fn in_links<'a, O>(
+    links: &'a [Link<O, Boxed<Expr>>],
+    search: &mut Search<'a>,
 ) -> Result<(), NoMemory>
-    ensures { OnOk result (found.new ≡ least_with found.old (links_places links.now)) }
+    ensures least { OnOk result (search.new.least ≡ least_with search.old.least (links_places links.now)) }
+    ensures weight { OnOk result (search.new.weight ≡ search.old.weight + links_weight links.now) }
 {
-    for link in links.as_slice() {
-        in_expr(alloc, link.right.get(), found)?;
+    for link in links {
+        search.expression(link.right.get())?;
     }
     Ok(())
 }
 
-#[cycle(early)]
 #[tactic(auto, using(crate::proofs::Least::parts))]
-pub fn in_conditions(
-    alloc: Global,
-    links: &Items<Link<LogicalOp, Boxed<Expr>>>,
-    found: &mut Option<u32>,
+pub fn in_optional<'a>(
+    value: &'a Option<Boxed<Expr>>,
+    search: &mut Search<'a>,
 ) -> Result<(), NoMemory>
-    ensures { OnOk result (found.new ≡ least_with found.old (links_places links.now)) }
-{
-    for link in links.as_slice() {
-        in_expr(alloc, link.right.get(), found)?;
-    }
-    Ok(())
-}
-
-#[cycle(early)]
-#[tactic(auto, using(crate::proofs::Least::parts))]
-pub fn in_optional(
-    alloc: Global,
-    value: &Option<Boxed<Expr>>,
-    found: &mut Option<u32>,
-) -> Result<(), NoMemory>
-    ensures { OnOk result (found.new ≡ least_with found.old (optional_places value.now)) }
+    ensures least { OnOk result (search.new.least ≡ least_with search.old.least (optional_places value.now)) }
+    ensures weight { OnOk result (search.new.weight ≡ search.old.weight + optional_weight value.now) }
 {
     match value {
         None => Ok(()),
-        Some(value) => {
-            in_expr(alloc, value.get(), found)?;
-            Ok(())
-        }
+        Some(value) => search.expression(value.get()),
     }
 }
 
-#[cycle(early)]
-#[tactic(auto, using(crate::proofs::Least::parts))]
-pub fn in_declarators(
-    alloc: Global,
-    declarators: &Items<Declarator<Boxed<Expr>>>,
-    found: &mut Option<u32>,
+#[tactic(auto, using(crate::proofs::Turns::turns))]
+pub fn in_declarators<'a>(
+    declarators: &'a [Declarator<Boxed<Expr>>],
+    search: &mut Search<'a>,
 ) -> Result<(), NoMemory>
-    ensures { OnOk result (found.new ≡ least_with found.old (declarators_places declarators.now)) }
+    ensures least { OnOk result (search.new.least ≡ least_with search.old.least (declarators_places declarators.now)) }
+    ensures weight { OnOk result (search.new.weight ≡ search.old.weight + declarators_weight declarators.now) }
 {
-    for declarator in declarators.as_slice() {
-        in_optional(alloc, &declarator.value, found)?;
+    for declarator in declarators {
+        in_optional(&declarator.value, search)?;
     }
     Ok(())
 }

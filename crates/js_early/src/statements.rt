@@ -1,12 +1,13 @@
 //! Early names in statements.
 
-ghost use Rattle.std.specs.Prelude.{◌≡◌, [], ◌++◌, OnOk};
+ghost use Rattle.std.specs.Prelude.{◌≡◌, [], ◌++◌, ◌+◌, OnOk};
 ghost use Rattle.js_early.specs.Early.{stmt_found, scope, names_of};
 ghost use Rattle.js_early.specs.Parts.{least_with, arms_places, alternate_places, head_places, catch_places, last_places, stmts_places, body_places, declared_in};
+ghost use Rattle.js_early.specs.Weight.{stmt_below, stmts_weight, arms_weight, alternate_weight, head_weight, catch_weight, last_weight};
 
-use crate::expressions::in_expr;
 use crate::parts::{in_declarators, in_optional};
-use crate::scopes::{Names, in_scope};
+use crate::scopes::Names;
+use crate::search::Search;
 use js_ast::{Arm, Catch, Declarator, Expr, Identifier, LoopHead, Stmt};
 use js_units::NoMemory;
 use sqlite_items::{Boxed, Items};
@@ -17,180 +18,165 @@ fn in_names(
     alloc: Global,
     outer: &[Identifier],
     body: &[Stmt],
-    found: &mut Option<u32>,
+    search: &mut Search<'_>,
 ) -> Result<(), NoMemory>
-    ensures { OnOk result (found.new ≡ least_with found.old (scope (outer.now ++ declared_in body.now))) }
+    ensures least { OnOk result (search.new.least ≡ least_with search.old.least (scope (outer.now ++ declared_in body.now))) }
+    ensures weight { OnOk result (search.new.weight ≡ search.old.weight) }
 {
     let mut names = Names::new(alloc);
     names.push_all(outer)?;
     names.push_body(body)?;
-    in_scope(alloc, &names, found)?;
-    Ok(())
+    search.names(alloc, &names)
 }
 
 /// The names that the head of a loop declares.
 fn in_declared(
     alloc: Global,
     declarators: &[Declarator<Boxed<Expr>>],
-    found: &mut Option<u32>,
+    search: &mut Search<'_>,
 ) -> Result<(), NoMemory>
-    ensures { OnOk result (found.new ≡ least_with found.old (scope (names_of declarators.now))) }
+    ensures least { OnOk result (search.new.least ≡ least_with search.old.least (scope (names_of declarators.now))) }
+    ensures weight { OnOk result (search.new.weight ≡ search.old.weight) }
 {
     let mut names = Names::new(alloc);
     names.push_declared(declarators)?;
-    in_scope(alloc, &names, found)?;
-    Ok(())
+    search.names(alloc, &names)
 }
 
-/// What is below the statements of a scope.
-#[cycle(early)]
-#[tactic(auto, using(crate::proofs::Least::parts))]
-pub fn in_stmts(alloc: Global, body: &[Stmt], found: &mut Option<u32>) -> Result<(), NoMemory>
-    ensures { OnOk result (found.new ≡ least_with found.old (stmts_places body.now)) }
+/// The statements of a scope.
+#[tactic(auto, using(crate::proofs::Turns::turns))]
+pub fn in_stmts<'a>(body: &'a [Stmt], search: &mut Search<'a>) -> Result<(), NoMemory>
+    ensures least { OnOk result (search.new.least ≡ least_with search.old.least (stmts_places body.now)) }
+    ensures weight { OnOk result (search.new.weight ≡ search.old.weight + stmts_weight body.now) }
 {
     for stmt in body {
-        in_stmt(alloc, stmt, found)?;
+        search.statement(stmt)?;
     }
     Ok(())
 }
 
 /// Statements with a scope of their own, in which the outer names are declared already.
-#[cycle(early)]
 #[tactic(auto, using(crate::proofs::Least::parts))]
-pub fn in_body(
+pub fn in_body<'a>(
     alloc: Global,
     outer: &[Identifier],
-    body: &[Stmt],
-    found: &mut Option<u32>,
+    body: &'a [Stmt],
+    search: &mut Search<'a>,
 ) -> Result<(), NoMemory>
-    ensures { OnOk result (found.new ≡ least_with found.old (body_places outer.now body.now)) }
+    ensures least { OnOk result (search.new.least ≡ least_with search.old.least (body_places outer.now body.now)) }
+    ensures weight { OnOk result (search.new.weight ≡ search.old.weight + stmts_weight body.now) }
 {
-    in_names(alloc, outer, body, found)?;
-    in_stmts(alloc, body, found)?;
-    Ok(())
+    in_names(alloc, outer, body, search)?;
+    in_stmts(body, search)
 }
 
-#[cycle(early)]
 #[tactic(auto, using(crate::proofs::Least::parts))]
-fn in_head(
+fn in_head<'a>(
     alloc: Global,
-    head: &LoopHead<Boxed<Expr>>,
-    found: &mut Option<u32>,
+    head: &'a LoopHead<Boxed<Expr>>,
+    search: &mut Search<'a>,
 ) -> Result<(), NoMemory>
-    ensures { OnOk result (found.new ≡ least_with found.old (head_places head.now)) }
+    ensures least { OnOk result (search.new.least ≡ least_with search.old.least (head_places head.now)) }
+    ensures weight { OnOk result (search.new.weight ≡ search.old.weight + head_weight head.now) }
 {
     match head {
         LoopHead::Nothing => Ok(()),
-        LoopHead::Value(value) => {
-            in_expr(alloc, value.get(), found)?;
-            Ok(())
-        }
+        LoopHead::Value(value) => search.expression(value.get()),
         LoopHead::Declare { declarators, .. } => {
-            in_declared(alloc, declarators.as_slice(), found)?;
-            in_declarators(alloc, declarators, found)?;
-            Ok(())
+            in_declared(alloc, declarators.as_slice(), search)?;
+            in_declarators(declarators.as_slice(), search)
         }
     }
 }
 
-#[cycle(early)]
-#[tactic(auto, using(crate::proofs::Least::parts))]
-fn in_arms(alloc: Global, arms: &[Arm], found: &mut Option<u32>) -> Result<(), NoMemory>
-    ensures { OnOk result (found.new ≡ least_with found.old (arms_places arms.now)) }
+#[tactic(auto, using(crate::proofs::Turns::turns))]
+fn in_arms<'a>(arms: &'a [Arm], search: &mut Search<'a>) -> Result<(), NoMemory>
+    ensures least { OnOk result (search.new.least ≡ least_with search.old.least (arms_places arms.now)) }
+    ensures weight { OnOk result (search.new.weight ≡ search.old.weight + arms_weight arms.now) }
 {
     for arm in arms {
-        in_expr(alloc, arm.test.get(), found)?;
-        in_stmt(alloc, arm.consequent.get(), found)?;
+        search.expression(arm.test.get())?;
+        search.statement(arm.consequent.get())?;
     }
     Ok(())
 }
 
-#[cycle(early)]
 #[tactic(auto, using(crate::proofs::Least::parts))]
-fn in_alternate(
-    alloc: Global,
-    alternate: &Option<Boxed<Stmt>>,
-    found: &mut Option<u32>,
+fn in_alternate<'a>(
+    alternate: &'a Option<Boxed<Stmt>>,
+    search: &mut Search<'a>,
 ) -> Result<(), NoMemory>
-    ensures { OnOk result (found.new ≡ least_with found.old (alternate_places alternate.now)) }
+    ensures least { OnOk result (search.new.least ≡ least_with search.old.least (alternate_places alternate.now)) }
+    ensures weight { OnOk result (search.new.weight ≡ search.old.weight + alternate_weight alternate.now) }
 {
     match alternate {
         None => Ok(()),
-        Some(stmt) => {
-            in_stmt(alloc, stmt.get(), found)?;
-            Ok(())
-        }
+        Some(stmt) => search.statement(stmt.get()),
     }
 }
 
-#[cycle(early)]
 #[tactic(auto, using(crate::proofs::Least::parts))]
-fn in_catch(
+fn in_catch<'a>(
     alloc: Global,
-    catch: &Option<Catch<Items<Stmt>>>,
-    found: &mut Option<u32>,
+    catch: &'a Option<Catch<Items<Stmt>>>,
+    search: &mut Search<'a>,
 ) -> Result<(), NoMemory>
-    ensures { OnOk result (found.new ≡ least_with found.old (catch_places catch.now)) }
+    ensures least { OnOk result (search.new.least ≡ least_with search.old.least (catch_places catch.now)) }
+    ensures weight { OnOk result (search.new.weight ≡ search.old.weight + catch_weight catch.now) }
 {
     match catch {
         None => Ok(()),
-        Some(handler) => {
-            in_body(
-                alloc,
-                handler.name.as_slice(),
-                handler.body.as_slice(),
-                found,
-            )?;
-            Ok(())
-        }
+        Some(handler) => in_body(
+            alloc,
+            handler.name.as_slice(),
+            handler.body.as_slice(),
+            search,
+        ),
     }
 }
 
-#[cycle(early)]
 #[tactic(auto, using(crate::proofs::Least::parts))]
-fn in_last(
+fn in_last<'a>(
     alloc: Global,
-    last: &Option<Items<Stmt>>,
-    found: &mut Option<u32>,
+    last: &'a Option<Items<Stmt>>,
+    search: &mut Search<'a>,
 ) -> Result<(), NoMemory>
-    ensures { OnOk result (found.new ≡ least_with found.old (last_places last.now)) }
+    ensures least { OnOk result (search.new.least ≡ least_with search.old.least (last_places last.now)) }
+    ensures weight { OnOk result (search.new.weight ≡ search.old.weight + last_weight last.now) }
 {
     match last {
         None => Ok(()),
-        Some(body) => {
-            in_body(alloc, &[], body.as_slice(), found)?;
-            Ok(())
-        }
+        Some(body) => in_body(alloc, &[], body.as_slice(), search),
     }
 }
 
-/// Nests as deep as the statement.
-#[cycle(early)]
-#[tactic(auto, using(crate::proofs::Opens::stmt_steps))]
-pub fn in_stmt(alloc: Global, stmt: &Stmt, found: &mut Option<u32>) -> Result<(), NoMemory>
-    ensures { OnOk result (found.new ≡ least_with found.old (stmt_found stmt.now).places) }
+/// The early names of a statement's own scopes, and the trees directly below it.
+#[tactic(auto, using(crate::proofs::Opens::stmt_steps, crate::proofs::Weighs::stmt_belows))]
+pub fn in_stmt<'a>(alloc: Global, stmt: &'a Stmt, search: &mut Search<'a>) -> Result<(), NoMemory>
+    ensures least { OnOk result (search.new.least ≡ least_with search.old.least ((stmt_found stmt.now).places)) }
+    ensures weight { OnOk result (search.new.weight ≡ search.old.weight + stmt_below stmt.now) }
 {
     match stmt {
-        Stmt::Nothing { .. } | Stmt::Break { .. } | Stmt::Continue { .. } => return Ok(()),
-        Stmt::Block { body, .. } => in_body(alloc, &[], body.as_slice(), found)?,
-        Stmt::Declare { declarators, .. } => in_declarators(alloc, declarators, found)?,
+        Stmt::Nothing { .. } | Stmt::Break { .. } | Stmt::Continue { .. } => Ok(()),
+        Stmt::Block { body, .. } => in_body(alloc, &[], body.as_slice(), search),
+        Stmt::Declare { declarators, .. } => in_declarators(declarators.as_slice(), search),
         Stmt::Function {
             parameters,
             body,
             ..
-        } => in_body(alloc, parameters.as_slice(), body.as_slice(), found)?,
-        Stmt::Express { value, .. } => in_expr(alloc, value.get(), found)?,
+        } => in_body(alloc, parameters.as_slice(), body.as_slice(), search),
+        Stmt::Express { value, .. } => search.expression(value.get()),
         Stmt::If { arms, alternate } => {
-            in_arms(alloc, arms.as_slice(), found)?;
-            in_alternate(alloc, alternate, found)?;
+            in_arms(arms.as_slice(), search)?;
+            in_alternate(alternate, search)
         }
         Stmt::While { test, body, .. } => {
-            in_expr(alloc, test.get(), found)?;
-            in_stmt(alloc, body.get(), found)?;
+            search.expression(test.get())?;
+            search.statement(body.get())
         }
         Stmt::Do { body, test, .. } => {
-            in_stmt(alloc, body.get(), found)?;
-            in_expr(alloc, test.get(), found)?;
+            search.statement(body.get())?;
+            search.expression(test.get())
         }
         Stmt::For {
             head,
@@ -199,27 +185,26 @@ pub fn in_stmt(alloc: Global, stmt: &Stmt, found: &mut Option<u32>) -> Result<()
             body,
             ..
         } => {
-            in_head(alloc, head, found)?;
-            in_optional(alloc, test, found)?;
-            in_optional(alloc, update, found)?;
-            in_stmt(alloc, body.get(), found)?;
+            in_head(alloc, head, search)?;
+            in_optional(test, search)?;
+            in_optional(update, search)?;
+            search.statement(body.get())
         }
         Stmt::ForOf { items, body, .. } => {
-            in_expr(alloc, items.get(), found)?;
-            in_stmt(alloc, body.get(), found)?;
+            search.expression(items.get())?;
+            search.statement(body.get())
         }
-        Stmt::Return { value, .. } => in_optional(alloc, value, found)?,
-        Stmt::Throw { value, .. } => in_expr(alloc, value.get(), found)?,
+        Stmt::Return { value, .. } => in_optional(value, search),
+        Stmt::Throw { value, .. } => search.expression(value.get()),
         Stmt::Try {
             body,
             catch,
             finally,
             ..
         } => {
-            in_body(alloc, &[], body.as_slice(), found)?;
-            in_catch(alloc, catch, found)?;
-            in_last(alloc, finally, found)?;
+            in_body(alloc, &[], body.as_slice(), search)?;
+            in_catch(alloc, catch, search)?;
+            in_last(alloc, finally, search)
         }
     }
-    Ok(())
 }

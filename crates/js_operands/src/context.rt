@@ -8,7 +8,7 @@ ghost use Rattle.js_operands.specs.Context.{see};
 use js_reading::{Below, Braces, Frame, Pending, Pile};
 
 /// What may stand at a place.
-#[derive(Clone, Copy, Debug, PartialEq, Eq)]
+#[derive(Clone, Copy)]
 pub struct Context {
     pub in_loop: bool,
     pub in_function: bool,

@@ -6,6 +6,7 @@ ghost use Rattle.js_grammar.specs.Phrases.{level};
 ghost use Rattle.js_reading.specs.Frames.{context, begun, begins, tightness_of, tightness, begin_of, join, close_to, takes_assign, takes_unary};
 ghost use Rattle.js_operands.specs.Answers.{Gives, Makes};
 
+use crate::operands::boxed;
 use crate::stop::Stop;
 use js_ast::{BinaryOp, Expr, Link, LogicalOp};
 use js_reading::{Closed, Frame, Pending, Pile};
@@ -168,7 +169,7 @@ fn join(alloc: Global, pending: Pending, value: Boxed<Expr>) -> Result<Boxed<Exp
             value,
         },
     };
-    Ok(Boxed::new(alloc, whole)?)
+    boxed(alloc, whole)
 }
 
 /// What is tighter ends with the expression.

@@ -14,7 +14,7 @@ pub use frames::{
     takes_unary,
 };
 pub use operands::{
-    call_parts, continues, is_literal, is_of, parameter_of, target_of, value_of, wrapped,
+    boxed, call_parts, continues, is_literal, is_of, parameter_of, target_of, value_of, wrapped,
 };
 pub use stop::Stop;
 pub use wanting::{

@@ -16,6 +16,13 @@ use js_units::Units;
 use sqlite_items::{Boxed, Items};
 use std::alloc::Global;
 
+/// A tree in its box.
+pub fn boxed(alloc: Global, tree: Expr) -> Result<Boxed<Expr>, Stop>
+    ensures { Makes result tree }
+{
+    Ok(Boxed::new(alloc, tree)?)
+}
+
 fn call_of(
     alloc: Global,
     first: Boxed<Expr>,
@@ -24,8 +31,11 @@ fn call_of(
     ensures { Makes result (call_of first suffixes) }
 {
     match suffixes.as_slice() {
-        [] => Ok(first),
-        [_, ..] => Ok(Boxed::new(alloc, Expr::Call { first, suffixes })?),
+        [] => {
+            drop(suffixes);
+            Ok(first)
+        }
+        [_, ..] => boxed(alloc, Expr::Call { first, suffixes }),
     }
 }
 
@@ -50,13 +60,13 @@ fn accessed(
     ensures { Makes result (Expr.Call first (earlier ++ suffix.Access last ∷ [])) }
 {
     let suffixes = suffixed(earlier, Suffix::Access(last))?;
-    Ok(Boxed::new(alloc, Expr::Call { first, suffixes })?)
+    boxed(alloc, Expr::Call { first, suffixes })
 }
 
 fn name(alloc: Global, name: Identifier) -> Result<Boxed<Expr>, Stop>
     ensures { Makes result (Expr.Name name) }
 {
-    Ok(Boxed::new(alloc, Expr::Name(name))?)
+    boxed(alloc, Expr::Name(name))
 }
 
 /// The operand's tree.
@@ -77,9 +87,7 @@ pub fn value_of(alloc: Global, operand: Operand) -> Result<Boxed<Expr>, Stop>
             earlier,
             last,
         } => accessed(alloc, first, earlier, last),
-        Operand::Call { first, suffixes } => {
-            Ok(Boxed::new(alloc, Expr::Call { first, suffixes })?)
-        }
+        Operand::Call { first, suffixes } => boxed(alloc, Expr::Call { first, suffixes }),
         Operand::Literal(value) => Ok(value),
         Operand::Primary(value) => Ok(value),
         Operand::Stepped(value) => Ok(value),
@@ -134,10 +142,13 @@ fn property_target(
 ) -> Result<Target<Boxed<Expr>>, Stop>
     ensures { Makes result (target.Access (call_of first earlier) last) }
 {
-    Ok(Target::Access {
-        base: call_of(alloc, first, earlier)?,
-        access: last,
-    })
+    match call_of(alloc, first, earlier) {
+        Ok(base) => Ok(Target::Access { base, access: last }),
+        Err(stop) => {
+            drop(last);
+            Err(stop)
+        }
+    }
 }
 
 /// What may be assigned.
@@ -158,7 +169,10 @@ pub fn target_of(alloc: Global, operand: Operand) -> Result<Target<Boxed<Expr>>,
             earlier,
             last,
         } => property_target(alloc, first, earlier, last),
-        _ => Err(Stop::Syntax),
+        other => {
+            drop(other);
+            Err(Stop::Syntax)
+        }
     }
 }
 
@@ -169,7 +183,10 @@ pub fn parameter_of(operand: Operand) -> Result<Identifier, Stop>
     match operand {
         Operand::Name(name) => Ok(name),
         Operand::RoundName(name) => Ok(name),
-        _ => Err(Stop::Syntax),
+        other => {
+            drop(other);
+            Err(Stop::Syntax)
+        }
     }
 }
 

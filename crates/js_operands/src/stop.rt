@@ -7,7 +7,7 @@ use js_units::NoMemory;
 use std::alloc::{AllocError, AllocFailed};
 
 /// Why a step isn't taken.
-#[derive(Clone, Copy, Debug, PartialEq, Eq)]
+#[derive(Clone, Copy)]
 pub enum Stop {
     Syntax,
     NoMemory,

@@ -6,11 +6,12 @@ ghost use Rattle.js_grammar.specs.declared.token.Word.TheVariants as word;
 ghost use Rattle.js_reading.specs.declared.mode.Mode.TheVariants as mode;
 ghost use Rattle.js_reading.specs.declared.frame.Frame.TheVariants as frame;
 ghost use Rattle.js_reading.specs.declared.frame.Bracket.TheVariants as bracket;
+ghost use Rattle.js_reading.specs.declared.mode.Piece.TheVariants as pieces;
 ghost use Rattle.js_operands.specs.Answers.{Gives, Makes};
 
 use crate::context::context_of;
 use crate::frames::{pushed, takes_assign, takes_unary};
-use crate::operands::suffixed;
+use crate::operands::{boxed, suffixed};
 use crate::stop::Stop;
 use js_ast::{BinaryOp, Expr, Identifier, StepOp, Suffix, UnaryOp};
 use js_grammar::{TokenKind, Word};
@@ -55,13 +56,13 @@ pub fn reached(start: u32, operand: Operand, frames: Pile<Frame>) -> Parser
 pub fn primary(alloc: Global, start: u32, value: Expr, frames: Pile<Frame>) -> Result<Parser, Stop>
     ensures { Gives (λ x. x) result (primary start value frames) }
 {
-    Ok(reached(start, Operand::Primary(Boxed::new(alloc, value)?), frames))
+    Ok(reached(start, Operand::Primary(boxed(alloc, value)?), frames))
 }
 
 fn literal(alloc: Global, start: u32, value: Expr, frames: Pile<Frame>) -> Result<Parser, Stop>
     ensures { Gives (λ x. x) result (literal start value frames) }
 {
-    Ok(reached(start, Operand::Literal(Boxed::new(alloc, value)?), frames))
+    Ok(reached(start, Operand::Literal(boxed(alloc, value)?), frames))
 }
 
 fn prefixed(op: UnaryOp, site: u32, frames: Pile<Frame>) -> Result<Parser, Stop>
@@ -70,6 +71,7 @@ fn prefixed(op: UnaryOp, site: u32, frames: Pile<Frame>) -> Result<Parser, Stop>
     if takes_unary(&frames) {
         return wants(Frame::Pending(Pending::Prefix { site, op }), frames);
     }
+    drop(frames);
     Err(Stop::Syntax)
 }
 
@@ -79,6 +81,7 @@ fn stepped(op: StepOp, site: u32, frames: Pile<Frame>) -> Result<Parser, Stop>
     if takes_unary(&frames) {
         return wants(Frame::Step { site, op }, frames);
     }
+    drop(frames);
     Err(Stop::Syntax)
 }
 
@@ -88,7 +91,10 @@ fn want_binary(op: BinaryOp, site: u32, frames: Pile<Frame>) -> Result<Parser, S
     match op {
         BinaryOp::Add => prefixed(UnaryOp::Plus, site, frames),
         BinaryOp::Subtract => prefixed(UnaryOp::Minus, site, frames),
-        _ => Err(Stop::Syntax),
+        _ => {
+            drop(frames);
+            Err(Stop::Syntax)
+        }
     }
 }
 
@@ -98,6 +104,7 @@ fn want_this(alloc: Global, site: u32, frames: Pile<Frame>) -> Result<Parser, St
     if context_of(&frames).has_this {
         return primary(alloc, site, Expr::This { site }, frames);
     }
+    drop(frames);
     Err(Stop::Syntax)
 }
 
@@ -133,7 +140,10 @@ pub fn want_word(alloc: Global, word: Word, site: u32, frames: Pile<Frame>) -> R
         Word::TypeOf => prefixed(UnaryOp::TypeOf, site, frames),
         Word::New => piece(Piece::New { site }, frames),
         Word::Function => piece(Piece::Function { site }, frames),
-        _ => Err(Stop::Syntax),
+        _ => {
+            drop(frames);
+            Err(Stop::Syntax)
+        }
     }
 }
 
@@ -152,21 +162,25 @@ pub fn opens_list(alloc: Global, braces: Braces, frames: Pile<Frame>) -> Result<
     })
 }
 
+/// An object begins.
+fn opens_object(alloc: Global, site: u32, frames: Pile<Frame>) -> Result<Parser, Stop>
+    ensures { Makes result (at (mode.Piece (pieces.Key site [])) frames) }
+{
+    let members = Items::new(alloc);
+    piece(Piece::Key { site, members }, frames)
+}
+
 /// An arrow's body directly behind `=>`, else an object.
 fn want_brace(alloc: Global, site: u32, frames: Pile<Frame>) -> Result<Parser, Stop>
     ensures { Gives (λ x. x) result (want_brace site frames) }
 {
     let mut frames = frames;
-    let key = Piece::Key {
-        site,
-        members: Items::new(alloc),
-    };
     match frames.pop() {
-        None => piece(key, frames),
+        None => opens_object(alloc, site, frames),
         Some(Frame::Pending(Pending::Arrow { start, parameters })) => {
             opens_list(alloc, Braces::Arrow { start, parameters }, frames)
         }
-        Some(frame) => piece(key, pushed(frames, frame)?),
+        Some(frame) => opens_object(alloc, site, pushed(frames, frame)?),
     }
 }
 
@@ -195,6 +209,7 @@ fn no_parameters(alloc: Global, start: u32, frames: Pile<Frame>) -> Result<Parse
             frames,
         });
     }
+    drop(frames);
     Err(Stop::Syntax)
 }
 
@@ -227,7 +242,11 @@ fn want_close_in(alloc: Global, bracket: Bracket, frames: Pile<Frame>) -> Result
                 frames,
             )
         }
-        _ => Err(Stop::Syntax),
+        other => {
+            drop(other);
+            drop(frames);
+            Err(Stop::Syntax)
+        }
     }
 }
 
@@ -240,7 +259,11 @@ fn want_square(alloc: Global, frames: Pile<Frame>) -> Result<Parser, Stop>
         Some(Frame::Bracket(Bracket::Array { site, items })) => {
             primary(alloc, site, Expr::Array { site, items }, frames)
         }
-        _ => Err(Stop::Syntax),
+        other => {
+            drop(other);
+            drop(frames);
+            Err(Stop::Syntax)
+        }
     }
 }
 
@@ -260,7 +283,11 @@ fn no_test(frames: Pile<Frame>) -> Result<Parser, Stop>
                 frames,
             )
         }
-        _ => Err(Stop::Syntax),
+        other => {
+            drop(other);
+            drop(frames);
+            Err(Stop::Syntax)
+        }
     }
 }
 
@@ -291,7 +318,11 @@ fn no_update(part: Part, frames: Pile<Frame>) -> Result<Parser, Stop>
                 frames,
             )
         }
-        _ => Err(Stop::Syntax),
+        other => {
+            drop(other);
+            drop(frames);
+            Err(Stop::Syntax)
+        }
     }
 }
 
@@ -302,19 +333,28 @@ fn want_close(alloc: Global, frames: Pile<Frame>) -> Result<Parser, Stop>
     match frames.pop() {
         Some(Frame::Bracket(bracket)) => want_close_in(alloc, bracket, frames),
         Some(Frame::Part(part)) => no_update(part, frames),
-        _ => Err(Stop::Syntax),
+        other => {
+            drop(other);
+            drop(frames);
+            Err(Stop::Syntax)
+        }
     }
 }
 
 /// A mark where an expression is due.
-fn want_mark(alloc: Global, site: u32, frames: Pile<Frame>, kind: TokenKind) -> Result<Parser, Stop>
-    ensures { Gives (λ x. x) result (want_mark site frames kind) }
+fn want_mark(
+    alloc: Global,
+    site: u32,
+    frames: Pile<Frame>,
+    kind: &TokenKind,
+) -> Result<Parser, Stop>
+    ensures { Gives (λ x. x) result (want_mark site frames kind.now) }
 {
     match kind {
-        TokenKind::Binary(op) => want_binary(op, site, frames),
+        TokenKind::Binary(op) => want_binary(*op, site, frames),
         TokenKind::Not => prefixed(UnaryOp::Not, site, frames),
         TokenKind::Complement => prefixed(UnaryOp::Complement, site, frames),
-        TokenKind::Step(op) => stepped(op, site, frames),
+        TokenKind::Step(op) => stepped(*op, site, frames),
         TokenKind::OpenRound => wants(Frame::Bracket(Bracket::Round { site }), frames),
         TokenKind::OpenSquare => {
             let items = Items::new(alloc);
@@ -324,7 +364,10 @@ fn want_mark(alloc: Global, site: u32, frames: Pile<Frame>, kind: TokenKind) -> 
         TokenKind::CloseRound => want_close(alloc, frames),
         TokenKind::CloseSquare => want_square(alloc, frames),
         TokenKind::Semicolon => no_test(frames),
-        _ => Err(Stop::Syntax),
+        _ => {
+            drop(frames);
+            Err(Stop::Syntax)
+        }
     }
 }
 
@@ -339,6 +382,10 @@ pub fn want(alloc: Global, site: u32, frames: Pile<Frame>, kind: TokenKind) -> R
         TokenKind::Word { word, .. } => want_word(alloc, word, site, frames),
         TokenKind::Number(value) => literal(alloc, site, Expr::Number { site, value }, frames),
         TokenKind::Text(value) => literal(alloc, site, Expr::Text { site, value }, frames),
-        kind => want_mark(alloc, site, frames, kind),
+        mark => {
+            let wanted = want_mark(alloc, site, frames, &mark);
+            drop(mark);
+            wanted
+        }
     }
 }

@@ -19,6 +19,8 @@ pub fn to_arrow(
     ensures { Gives (λ x. x) result (to_arrow line start parameters frames) }
 {
     if line {
+        drop(parameters);
+        drop(frames);
         return Err(Stop::Syntax);
     }
     wants(Frame::Pending(Pending::Arrow { start, parameters }), frames)
@@ -40,5 +42,7 @@ pub fn on_arrow(
         names.push(name)?;
         return to_arrow(line, start, names, frames);
     }
+    drop(name);
+    drop(frames);
     Err(Stop::Syntax)
 }

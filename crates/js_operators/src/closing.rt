@@ -1,11 +1,12 @@
 //! What ends with an operand.
 
-ghost use Rattle.std.specs.Prelude.{true};
-ghost use Rattle.js_reading.specs.Operands.{settled, closed, whole};
+ghost use Rattle.std.specs.Prelude.{true, ◌∷◌};
+ghost use Rattle.js_reading.specs.Operands.{settled, closed, whole, value_of};
+ghost use Rattle.js_reading.specs.declared.frame.Frame.TheVariants as frame;
 ghost use Rattle.js_operands.specs.Answers.{Gives, Makes};
 
 use js_ast::{Expr, StepOp, Target};
-use js_operands::{ALL, Stop, close_to, pushed, target_of, value_of};
+use js_operands::{ALL, Stop, boxed, close_to, pushed, target_of, value_of};
 use js_reading::{Closed, Frame, Operand, Pile};
 use sqlite_items::Boxed;
 use std::alloc::Global;
@@ -19,7 +20,7 @@ fn prefix_step(
 ) -> Result<Boxed<Expr>, Stop>
     ensures { Makes result (Expr.Step site site op true target) }
 {
-    Ok(Boxed::new(
+    boxed(
         alloc,
         Expr::Step {
             start: site,
@@ -28,7 +29,38 @@ fn prefix_step(
             is_prefix: true,
             target,
         },
-    )?)
+    )
+}
+
+/// The operand's tree.
+fn plain(alloc: Global, start: u32, operand: Operand, frames: Pile<Frame>) -> Result<Closed, Stop>
+    ensures { Makes result (record { start = start; value = value_of operand; frames = frames }) }
+{
+    let value = value_of(alloc, operand)?;
+    Ok(Closed {
+        start,
+        value,
+        frames,
+    })
+}
+
+/// The tree of `++` or `--` and the operand.
+fn stepped(
+    alloc: Global,
+    site: u32,
+    op: StepOp,
+    operand: Operand,
+    frames: Pile<Frame>,
+) -> Result<Closed, Stop>
+    ensures { Gives (λ x. x) result (settled site operand (frame.Step site op ∷ frames)) }
+{
+    let target = target_of(alloc, operand)?;
+    let value = prefix_step(alloc, site, op, target)?;
+    Ok(Closed {
+        start: site,
+        value,
+        frames,
+    })
 }
 
 /// The operand's tree, or that of the `++` or `--` before it.
@@ -37,21 +69,15 @@ fn settled(alloc: Global, start: u32, operand: Operand, frames: Pile<Frame>) -> 
 {
     let mut frames = frames;
     match frames.pop() {
-        None => Ok(Closed {
-            start,
-            value: value_of(alloc, operand)?,
-            frames,
-        }),
-        Some(Frame::Step { site, op }) => Ok(Closed {
-            start: site,
-            value: prefix_step(alloc, site, op, target_of(alloc, operand)?)?,
-            frames,
-        }),
-        Some(frame) => Ok(Closed {
-            start,
-            value: value_of(alloc, operand)?,
-            frames: pushed(frames, frame)?,
-        }),
+        None => plain(alloc, start, operand, frames),
+        Some(Frame::Step { site, op }) => stepped(alloc, site, op, operand, frames),
+        Some(frame) => match pushed(frames, frame) {
+            Ok(frames) => plain(alloc, start, operand, frames),
+            Err(stop) => {
+                drop(operand);
+                Err(stop)
+            }
+        },
     }
 }
 

@@ -60,7 +60,35 @@ fn on_assign(
             frames,
         );
     }
+    drop(target);
+    drop(frames);
     Err(Stop::Syntax)
+}
+
+fn continues(
+    alloc: Global,
+    site: u32,
+    start: u32,
+    operand: Operand,
+    frames: Pile<Frame>,
+    kind: &TokenKind,
+) -> Result<Parser, Stop>
+    ensures { Gives (λ x. x) result (continues_by site start operand frames kind.now) }
+{
+    match kind {
+        TokenKind::Dot => on_dot(alloc, site, start, operand, frames),
+        TokenKind::OpenRound => on_round(alloc, site, start, operand, frames),
+        TokenKind::OpenSquare => on_square(alloc, site, start, operand, frames),
+        TokenKind::Binary(op) => on_binary(alloc, *op, site, start, operand, frames),
+        TokenKind::Logical(op) => on_logical(alloc, *op, site, start, operand, frames),
+        TokenKind::Assign(op) => on_assign(alloc, *op, site, start, operand, frames),
+        TokenKind::Question => on_question(alloc, site, start, operand, frames),
+        _ => {
+            drop(operand);
+            drop(frames);
+            Err(Stop::Syntax)
+        }
+    }
 }
 
 /// A token that goes on with the expression.
@@ -74,14 +102,7 @@ pub fn continued(
 ) -> Result<Parser, Stop>
     ensures { Gives (λ x. x) result (continues_by site start operand frames kind) }
 {
-    match kind {
-        TokenKind::Dot => on_dot(alloc, site, start, operand, frames),
-        TokenKind::OpenRound => on_round(alloc, site, start, operand, frames),
-        TokenKind::OpenSquare => on_square(alloc, site, start, operand, frames),
-        TokenKind::Binary(op) => on_binary(alloc, op, site, start, operand, frames),
-        TokenKind::Logical(op) => on_logical(alloc, op, site, start, operand, frames),
-        TokenKind::Assign(op) => on_assign(alloc, op, site, start, operand, frames),
-        TokenKind::Question => on_question(alloc, site, start, operand, frames),
-        _ => Err(Stop::Syntax),
-    }
+    let read = continues(alloc, site, start, operand, frames, &kind);
+    drop(kind);
+    read
 }

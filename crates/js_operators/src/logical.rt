@@ -110,6 +110,10 @@ fn place_logical(alloc: Global, op: LogicalOp, site: u32, closed: Closed) -> Res
                 let frames = pushed(frames, Frame::Pending(looser))?;
                 return opens_logical(alloc, op, site, from, value, frames);
             }
+            drop(first);
+            drop(links);
+            drop(value);
+            drop(frames);
             Err(Stop::Syntax)
         }
         Some(frame) => {

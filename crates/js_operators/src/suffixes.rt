@@ -4,9 +4,9 @@ ghost use Rattle.js_reading.specs.Operands.{on_step, on_dot, on_round, on_square
 ghost use Rattle.js_operands.specs.Answers.{Gives};
 
 use js_ast::{Expr, StepOp};
-use js_operands::{Stop, call_parts, reached, takes_unary, target_of, wants};
+use js_operands::{Stop, boxed, call_parts, reached, takes_unary, target_of, wants};
 use js_reading::{Bracket, Frame, Mode, Operand, Parser, Piece, Pile};
-use sqlite_items::{Boxed, Items};
+use sqlite_items::Items;
 use std::alloc::Global;
 
 /// `++` or `--` behind a target.
@@ -22,7 +22,7 @@ pub fn on_step(
 {
     let target = target_of(alloc, operand)?;
     if takes_unary(&frames) {
-        let value = Boxed::new(
+        let value = boxed(
             alloc,
             Expr::Step {
                 start,
@@ -34,6 +34,8 @@ pub fn on_step(
         )?;
         return Ok(reached(start, Operand::Stepped(value), frames));
     }
+    drop(target);
+    drop(frames);
     Err(Stop::Syntax)
 }
 

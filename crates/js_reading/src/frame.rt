@@ -92,7 +92,7 @@ pub enum Bracket {
 }
 
 /// Where names are declared.
-#[derive(Clone, Copy, Debug, PartialEq, Eq)]
+#[derive(Clone, Copy)]
 pub enum Place {
     Statement,
     /// In the head of a `for`.
