@@ -7,9 +7,11 @@ ghost use Rattle.js_reading.specs.declared.mode.Piece.TheVariants as piece;
 ghost use Rattle.js_operands.specs.Answers.{Gives, Makes};
 
 use js_ast::{Access, Expr, Identifier, Member};
-use js_operands::{Stop, called, is_literal, primary, reached, takes_assign, wants};
+use js_operands::{
+    Stop, called, heading, is_literal, piece, primary, reached, takes_assign, wants,
+};
 use js_operators::whole;
-use js_reading::{Bracket, Frame, Header, Heading, Mode, Operand, Parser, Pending, Piece, Pile};
+use js_reading::{Bracket, Frame, Header, Heading, Operand, Parser, Pending, Piece, Pile};
 use sqlite_items::{Boxed, Items};
 use std::alloc::Global;
 
@@ -60,7 +62,10 @@ pub fn close_round_in(
                 frames,
             )
         }
-        _ => Err(Stop::Syntax),
+        other => {
+            drop(other);
+            Err(Stop::Syntax)
+        }
     }
 }
 
@@ -110,7 +115,10 @@ fn close_square_in(
             };
             Ok(reached(start, operand, frames))
         }
-        _ => Err(Stop::Syntax),
+        other => {
+            drop(other);
+            Err(Stop::Syntax)
+        }
     }
 }
 
@@ -151,7 +159,10 @@ fn on_colon_in(value: Boxed<Expr>, frames: Pile<Frame>) -> Result<Parser, Stop>
             }),
             frames,
         ),
-        _ => Err(Stop::Syntax),
+        other => {
+            drop(other);
+            Err(Stop::Syntax)
+        }
     }
 }
 
@@ -188,10 +199,7 @@ pub fn key_due(
 ) -> Result<Parser, Stop>
     ensures { Makes result (at (mode.Piece (piece.Key site members)) frames) }
 {
-    Ok(Parser {
-        mode: Mode::Piece(Piece::Key { site, members }),
-        frames,
-    })
+    piece(Piece::Key { site, members }, frames)
 }
 
 /// `,` behind the expression that a bracket awaits.
@@ -258,8 +266,20 @@ pub fn comma_in(
             )?;
             key_due(site, members, frames)
         }
-        _ => Err(Stop::Syntax),
+        other => {
+            drop(other);
+            Err(Stop::Syntax)
+        }
     }
+}
+
+/// A parameter more.
+pub fn with_name(names: Items<Identifier>, name: Identifier) -> Result<Items<Identifier>, Stop>
+    ensures { Makes result (names ++ name ∷ []) }
+{
+    let mut names = names;
+    names.push(name)?;
+    Ok(names)
 }
 
 /// A comma behind the first name between parentheses: those of an arrow.
@@ -272,13 +292,9 @@ fn comma_names(
     ensures { Gives (λ x. x) result (comma_names start name frames) }
 {
     if takes_assign(&frames) {
-        let mut names = Items::new(alloc);
-        names.push(name)?;
+        let names = with_name(Items::new(alloc), name)?;
         let header = Header::Arrow { start };
-        return Ok(Parser {
-            mode: Mode::Heading(Heading::Parameters { header, names }),
-            frames,
-        });
+        return heading(Heading::Parameters { header, names }, frames);
     }
     Err(Stop::Syntax)
 }
@@ -294,6 +310,9 @@ pub fn comma_round(
 {
     match operand {
         Operand::Name(name) => comma_names(alloc, site, name, frames),
-        _ => Err(Stop::Syntax),
+        other => {
+            drop(other);
+            Err(Stop::Syntax)
+        }
     }
 }

@@ -5,7 +5,7 @@ ghost use Rattle.js_grammar.specs.Phrases.{is_proto};
 ghost use Rattle.js_reading.specs.Operands.{object, name_key, text_key, key_on, to_value, name_key_on, other_key_on, new_on, new_name_on, property, property_on, function_on, piece_on, headed, open_on, parameters_on, parameter_on, arrow_due_on};
 ghost use Rattle.js_operands.specs.Answers.{Gives};
 
-use crate::brackets::{key_due, with_member};
+use crate::brackets::{key_due, with_member, with_name};
 use js_ast::{Access, Expr, Identifier, Key, Member, Suffix};
 use js_grammar::TokenKind;
 use js_operands::{Stop, heading, piece, primary, reached, wants};
@@ -95,6 +95,7 @@ fn key_on(
         TokenKind::Word { units, .. } => text_key(site, members, at, units, frames),
         TokenKind::Text(text) => text_key(site, members, at, text, frames),
         TokenKind::Number(number) => {
+            drop(kind);
             let key = Key::Number(number);
             piece(
                 Piece::OtherKey {
@@ -106,8 +107,14 @@ fn key_on(
                 frames,
             )
         }
-        TokenKind::CloseBrace => object(alloc, site, members, frames),
-        _ => Err(Stop::Syntax),
+        TokenKind::CloseBrace => {
+            drop(kind);
+            object(alloc, site, members, frames)
+        }
+        other => {
+            drop(other);
+            Err(Stop::Syntax)
+        }
     }
 }
 
@@ -137,9 +144,9 @@ fn name_key_on(
     members: Items<Member<Boxed<Expr>>>,
     name: Identifier,
     frames: Pile<Frame>,
-    kind: TokenKind,
+    kind: &TokenKind,
 ) -> Result<Parser, Stop>
-    ensures { Gives (λ x. x) result (name_key_on site members name frames kind) }
+    ensures { Gives (λ x. x) result (name_key_on site members name frames kind.now) }
 {
     match kind {
         TokenKind::Colon => {
@@ -167,13 +174,16 @@ fn other_key_on(
     key_site: u32,
     key: Key,
     frames: Pile<Frame>,
-    kind: TokenKind,
+    kind: &TokenKind,
 ) -> Result<Parser, Stop>
-    ensures { Gives (λ x. x) result (other_key_on site members key_site key frames kind) }
+    ensures { Gives (λ x. x) result (other_key_on site members key_site key frames kind.now) }
 {
     match kind {
         TokenKind::Colon => to_value(site, members, key_site, key, frames),
-        _ => Err(Stop::Syntax),
+        _ => {
+            drop(key);
+            Err(Stop::Syntax)
+        }
     }
 }
 
@@ -185,7 +195,10 @@ fn new_on(site: u32, at: u32, frames: Pile<Frame>, kind: TokenKind) -> Result<Pa
             let name = Identifier { site: at, name };
             piece(Piece::NewName { site, name }, frames)
         }
-        _ => Err(Stop::Syntax),
+        other => {
+            drop(other);
+            Err(Stop::Syntax)
+        }
     }
 }
 
@@ -194,9 +207,9 @@ fn new_name_on(
     site: u32,
     name: Identifier,
     frames: Pile<Frame>,
-    kind: TokenKind,
+    kind: &TokenKind,
 ) -> Result<Parser, Stop>
-    ensures { Gives (λ x. x) result (new_name_on site name frames kind) }
+    ensures { Gives (λ x. x) result (new_name_on site name frames kind.now) }
 {
     match kind {
         TokenKind::OpenRound => {
@@ -246,7 +259,10 @@ fn property_on(
     match kind {
         TokenKind::Name(name) => property(start, first, suffixes, site, name, frames),
         TokenKind::Word { units, .. } => property(start, first, suffixes, site, units, frames),
-        _ => Err(Stop::Syntax),
+        other => {
+            drop(other);
+            Err(Stop::Syntax)
+        }
     }
 }
 
@@ -265,11 +281,15 @@ fn function_on(
             heading(Heading::Open(Header::Value { site, name }), frames)
         }
         TokenKind::OpenRound => {
+            drop(kind);
             let header = Header::Value { site, name: None };
             let names = Items::new(alloc);
             heading(Heading::Parameters { header, names }, frames)
         }
-        _ => Err(Stop::Syntax),
+        other => {
+            drop(other);
+            Err(Stop::Syntax)
+        }
     }
 }
 
@@ -289,15 +309,27 @@ pub fn piece_on(
             site,
             members,
             name,
-        } => name_key_on(alloc, site, members, name, frames, kind),
+        } => {
+            let parser = name_key_on(alloc, site, members, name, frames, &kind);
+            drop(kind);
+            parser
+        }
         Piece::OtherKey {
             site,
             members,
             key_site,
             key,
-        } => { other_key_on(site, members, key_site, key, frames, kind) }
+        } => {
+            let parser = other_key_on(site, members, key_site, key, frames, &kind);
+            drop(kind);
+            parser
+        }
         Piece::New { site } => new_on(site, at, frames, kind),
-        Piece::NewName { site, name } => new_name_on(alloc, site, name, frames, kind),
+        Piece::NewName { site, name } => {
+            let parser = new_name_on(alloc, site, name, frames, &kind);
+            drop(kind);
+            parser
+        }
         Piece::Property {
             start,
             first,
@@ -336,16 +368,19 @@ pub fn open_on(
     alloc: Global,
     header: Header,
     frames: Pile<Frame>,
-    kind: TokenKind,
+    kind: &TokenKind,
 ) -> Result<Parser, Stop>
-    ensures { Gives (λ x. x) result (open_on header frames kind) }
+    ensures { Gives (λ x. x) result (open_on header frames kind.now) }
 {
     match kind {
         TokenKind::OpenRound => {
             let names = Items::new(alloc);
             heading(Heading::Parameters { header, names }, frames)
         }
-        _ => Err(Stop::Syntax),
+        _ => {
+            drop(header);
+            Err(Stop::Syntax)
+        }
     }
 }
 
@@ -360,13 +395,22 @@ pub fn parameters_on(
     ensures { Gives (λ x. x) result (parameters_on header names at frames kind) }
 {
     match kind {
-        TokenKind::Name(name) => {
-            let mut names = names;
-            names.push(Identifier { site: at, name })?;
-            heading(Heading::Parameter { header, names }, frames)
+        TokenKind::Name(name) => match with_name(names, Identifier { site: at, name }) {
+            Ok(names) => heading(Heading::Parameter { header, names }, frames),
+            Err(stop) => {
+                drop(header);
+                Err(stop)
+            }
+        },
+        TokenKind::CloseRound => {
+            drop(kind);
+            heading(headed(header, names), frames)
         }
-        TokenKind::CloseRound => heading(headed(header, names), frames),
-        _ => Err(Stop::Syntax),
+        other => {
+            drop(other);
+            drop(header);
+            Err(Stop::Syntax)
+        }
     }
 }
 
@@ -375,14 +419,17 @@ pub fn parameter_on(
     header: Header,
     names: Items<Identifier>,
     frames: Pile<Frame>,
-    kind: TokenKind,
+    kind: &TokenKind,
 ) -> Result<Parser, Stop>
-    ensures { Gives (λ x. x) result (parameter_on header names frames kind) }
+    ensures { Gives (λ x. x) result (parameter_on header names frames kind.now) }
 {
     match kind {
         TokenKind::Comma => heading(Heading::Parameters { header, names }, frames),
         TokenKind::CloseRound => heading(headed(header, names), frames),
-        _ => Err(Stop::Syntax),
+        _ => {
+            drop(header);
+            Err(Stop::Syntax)
+        }
     }
 }
 
@@ -392,9 +439,9 @@ pub fn arrow_due_on(
     start: u32,
     names: Items<Identifier>,
     frames: Pile<Frame>,
-    kind: TokenKind,
+    kind: &TokenKind,
 ) -> Result<Parser, Stop>
-    ensures { Gives (λ x. x) result (arrow_due_on line start names frames kind) }
+    ensures { Gives (λ x. x) result (arrow_due_on line start names frames kind.now) }
 {
     match kind {
         TokenKind::Arrow => to_arrow(line, start, names, frames),

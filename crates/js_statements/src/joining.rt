@@ -6,7 +6,7 @@ ghost use Rattle.js_reading.specs.declared.mode.Mode.TheVariants as mode;
 ghost use Rattle.js_reading.specs.Statements.{over, arm, joined, waits, settle, close_list, close_braces};
 ghost use Rattle.js_operands.specs.Answers.{Gives, Makes};
 
-use crate::sections::over;
+use crate::sections::{boxed, over};
 use js_ast::{Arm, Catch, Expr, Stmt};
 use js_operands::{Stop, primary, pushed, reached};
 use js_reading::{Below, Braces, Frame, Mode, Operand, Over, Parser, Pile, Trying};
@@ -79,7 +79,7 @@ fn joined(alloc: Global, below: Below, stmt: Boxed<Stmt>) -> Result<Boxed<Stmt>,
             }
         }
     };
-    Ok(Boxed::new(alloc, whole)?)
+    boxed(alloc, whole)
 }
 
 /// Whether a word is awaited behind the statement below: `while`, or `else` where one is there.
@@ -134,7 +134,7 @@ pub fn settle(
 pub fn over_with(alloc: Global, stmt: Stmt, frames: Pile<Frame>) -> Result<Parser, Stop>
     ensures { Makes result (over stmt frames) }
 {
-    Ok(over(Boxed::new(alloc, stmt)?, frames))
+    Ok(over(boxed(alloc, stmt)?, frames))
 }
 
 /// A `try` between its parts.
@@ -246,6 +246,9 @@ pub fn close_braces(alloc: Global, frames: Pile<Frame>) -> Result<Parser, Stop>
     let mut frames = frames;
     match frames.pop() {
         Some(Frame::List { braces, body }) => close_list(alloc, braces, body, frames),
-        _ => Err(Stop::Syntax),
+        other => {
+            drop(other);
+            Err(Stop::Syntax)
+        }
     }
 }

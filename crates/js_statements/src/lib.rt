@@ -7,7 +7,7 @@ mod statements;
 
 pub use joining::{settle, trying};
 pub use sections::{
-    bare, close_round_part, comma_part, declaration_over, declares_more, is_let, is_statement,
-    on_semicolon, over, over_of,
+    bare, boxed, close_round_part, comma_part, declaration_over, declares_more, is_let,
+    is_statement, on_semicolon, over, over_of,
 };
-pub use statements::{after, below, braces_due, declaration, item, opening};
+pub use statements::{after, below, braces_due, declaration, item, opening, want_part};

@@ -47,6 +47,13 @@ pub fn with_declarator(
     Ok(declarators)
 }
 
+/// A statement in a box.
+pub fn boxed(alloc: Global, stmt: Stmt) -> Result<Boxed<Stmt>, Stop>
+    ensures { Makes result stmt }
+{
+    Ok(Boxed::new(alloc, stmt)?)
+}
+
 fn declared(
     alloc: Global,
     declaring: Declaring,
@@ -62,14 +69,14 @@ fn declared(
         ..
     } = declaring;
     let declarators = with_declarator(declarators, name, value)?;
-    Ok(Boxed::new(
+    boxed(
         alloc,
         Stmt::Declare {
             site,
             kind,
             declarators,
         },
-    )?)
+    )
 }
 
 /// The declaration that ends with a name.
@@ -84,7 +91,7 @@ fn of_part(alloc: Global, part: Part, value: Boxed<Expr>) -> Result<Boxed<Stmt>,
     ensures { Gives (λ x. x) result (of_part part value) }
 {
     match part {
-        Part::Express { site } => Ok(Boxed::new(alloc, Stmt::Express { site, value })?),
+        Part::Express { site } => boxed(alloc, Stmt::Express { site, value }),
         Part::Declare { declaring, name } => {
             if is_statement(declaring.place) {
                 return declared(alloc, declaring, name, Some(value));
@@ -92,16 +99,19 @@ fn of_part(alloc: Global, part: Part, value: Boxed<Expr>) -> Result<Boxed<Stmt>,
             Err(Stop::Syntax)
         }
         Part::Return { site } => {
-            Ok(Boxed::new(
+            boxed(
                 alloc,
                 Stmt::Return {
                     site,
                     value: Some(value),
                 },
-            )?)
+            )
         }
-        Part::Throw { site } => Ok(Boxed::new(alloc, Stmt::Throw { site, value })?),
-        _ => Err(Stop::Syntax),
+        Part::Throw { site } => boxed(alloc, Stmt::Throw { site, value }),
+        other => {
+            drop(other);
+            Err(Stop::Syntax)
+        }
     }
 }
 
@@ -115,7 +125,10 @@ pub fn over_of(alloc: Global, value: Boxed<Expr>, frames: Pile<Frame>) -> Result
             value: of_part(alloc, part, value)?,
             frames,
         }),
-        _ => Err(Stop::Syntax),
+        other => {
+            drop(other);
+            Err(Stop::Syntax)
+        }
     }
 }
 
@@ -183,7 +196,10 @@ fn semicolon_of(alloc: Global, value: Boxed<Expr>, frames: Pile<Frame>) -> Resul
     let mut frames = frames;
     match frames.pop() {
         Some(Frame::Part(part)) => semicolon_part(alloc, value, part, frames),
-        _ => Err(Stop::Syntax),
+        other => {
+            drop(other);
+            Err(Stop::Syntax)
+        }
     }
 }
 
@@ -217,7 +233,7 @@ fn do_over(
         test,
     };
     Ok(Parser {
-        mode: Mode::Ending(Ending::Do(Boxed::new(alloc, stmt)?)),
+        mode: Mode::Ending(Ending::Do(boxed(alloc, stmt)?)),
         frames,
     })
 }
@@ -269,7 +285,10 @@ pub fn close_round_part(
                 frames,
             )
         }
-        _ => Err(Stop::Syntax),
+        other => {
+            drop(other);
+            Err(Stop::Syntax)
+        }
     }
 }
 
@@ -312,6 +331,9 @@ pub fn comma_part(
 {
     match part {
         Part::Declare { declaring, name } => { declares_more(declaring, name, Some(value), frames) }
-        _ => Err(Stop::Syntax),
+        other => {
+            drop(other);
+            Err(Stop::Syntax)
+        }
     }
 }

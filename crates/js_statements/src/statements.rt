@@ -1,14 +1,16 @@
 //! Statements that begin, and tokens behind those that are over.
 
-ghost use Rattle.js_reading.specs.Operands.{at, word_of};
+ghost use Rattle.std.specs.Prelude.{◌∷◌, ◌++◌, [], true, false};
+ghost use Rattle.js_reading.specs.Operands.{at, want, word_of};
 ghost use Rattle.js_reading.specs.Reading.{below_by};
 ghost use Rattle.js_grammar.specs.declared.token.Word.TheVariants as word;
+ghost use Rattle.js_reading.specs.declared.frame.Frame.TheVariants as frame;
 ghost use Rattle.js_reading.specs.declared.mode.Mode.TheVariants as mode;
-ghost use Rattle.js_reading.specs.Statements.{test_due, jump_in_loop, loop_word, express, inner_word, inner, declaration, item_word, item, next_item, on_else, on_while, after, braces_due};
+ghost use Rattle.js_reading.specs.Statements.{settle, test_due, jump_in_loop, loop_word, express, inner_word, inner, declaration, item_word, item, next_item, on_else, on_while, after, braces_due};
 ghost use Rattle.js_operands.specs.Answers.{Gives, Makes};
 
 use crate::joining::{close_braces, over_with, settle, with_arm};
-use crate::sections::over;
+use crate::sections::boxed;
 use js_ast::{DeclarationKind, Stmt};
 use js_grammar::{TokenKind, Word};
 use js_operands::{
@@ -53,8 +55,9 @@ fn jump(alloc: Global, stmt: Stmt, frames: Pile<Frame>) -> Result<Parser, Stop>
     ensures { Gives (λ x. x) result (jump_in_loop stmt frames) }
 {
     if context_of(&frames).in_loop {
-        return ending(Ending::Jump(Boxed::new(alloc, stmt)?), frames);
+        return ending(Ending::Jump(boxed(alloc, stmt)?), frames);
     }
+    drop(stmt);
     Err(Stop::Syntax)
 }
 
@@ -72,6 +75,25 @@ fn express(site: u32, frames: Pile<Frame>) -> Result<Pile<Frame>, Stop>
     ensures { Makes result (express site frames) }
 {
     pushed(frames, Frame::Part(Part::Express { site }))
+}
+
+/// An expression begins that is a part of a statement.
+pub fn want_part(
+    alloc: Global,
+    part: Part,
+    site: u32,
+    frames: Pile<Frame>,
+    kind: TokenKind,
+) -> Result<Parser, Stop>
+    ensures { Gives (λ x. x) result (want site (frame.Part part ∷ frames) kind) }
+{
+    match pushed(frames, Frame::Part(part)) {
+        Ok(frames) => want(alloc, site, frames, kind),
+        Err(stop) => {
+            drop(kind);
+            Err(stop)
+        }
+    }
 }
 
 /// `{` is due.
@@ -116,10 +138,38 @@ pub fn inner(alloc: Global, site: u32, frames: Pile<Frame>, kind: TokenKind) -> 
     ensures { Gives (λ x. x) result (inner site frames kind) }
 {
     match kind {
-        TokenKind::OpenBrace => opens_list(alloc, Braces::Block { site }, frames),
-        TokenKind::Semicolon => over_with(alloc, Stmt::Nothing { site }, frames),
-        TokenKind::Word { word, .. } => inner_word(alloc, word, site, frames),
-        kind => want(alloc, site, express(site, frames)?, kind),
+        TokenKind::OpenBrace => {
+            drop(kind);
+            opens_list(alloc, Braces::Block { site }, frames)
+        }
+        TokenKind::Semicolon => {
+            drop(kind);
+            over_with(alloc, Stmt::Nothing { site }, frames)
+        }
+        TokenKind::Word { word, .. } => {
+            drop(kind);
+            inner_word(alloc, word, site, frames)
+        }
+        _ => want_part(alloc, Part::Express { site }, site, frames, kind),
+    }
+}
+
+/// The same below a frame that is put back.
+fn inner_below(
+    alloc: Global,
+    site: u32,
+    frame: Frame,
+    frames: Pile<Frame>,
+    kind: TokenKind,
+) -> Result<Parser, Stop>
+    ensures { Gives (λ x. x) result (inner site (frame ∷ frames) kind) }
+{
+    match pushed(frames, frame) {
+        Ok(frames) => inner(alloc, site, frames, kind),
+        Err(stop) => {
+            drop(kind);
+            Err(stop)
+        }
     }
 }
 
@@ -130,8 +180,11 @@ pub fn below(alloc: Global, site: u32, frames: Pile<Frame>, kind: TokenKind) -> 
     if let Some(Word::If) = word_of(&kind) {
         let mut frames = frames;
         return match frames.pop() {
-            Some(Frame::Below(Below::Else { arms })) => test_due(Part::If { arms, site }, frames),
-            Some(frame) => inner(alloc, site, pushed(frames, frame)?, kind),
+            Some(Frame::Below(Below::Else { arms })) => {
+                drop(kind);
+                test_due(Part::If { arms, site }, frames)
+            }
+            Some(frame) => inner_below(alloc, site, frame, frames, kind),
             None => inner(alloc, site, frames, kind),
         };
     }
@@ -183,9 +236,42 @@ pub fn item(alloc: Global, site: u32, frames: Pile<Frame>, kind: TokenKind) -> R
     ensures { Gives (λ x. x) result (item site frames kind) }
 {
     match kind {
-        TokenKind::CloseBrace => close_braces(alloc, frames),
-        TokenKind::Word { word, .. } => item_word(alloc, word, site, frames),
-        kind => inner(alloc, site, frames, kind),
+        TokenKind::CloseBrace => {
+            drop(kind);
+            close_braces(alloc, frames)
+        }
+        TokenKind::Word { word, .. } => {
+            drop(kind);
+            item_word(alloc, word, site, frames)
+        }
+        _ => inner(alloc, site, frames, kind),
+    }
+}
+
+/// A statement more.
+fn with_stmt(body: Items<Stmt>, stmt: Boxed<Stmt>) -> Result<Items<Stmt>, Stop>
+    ensures { Makes result (body ++ stmt ∷ []) }
+{
+    let mut body = body;
+    body.push(stmt.into_inner())?;
+    Ok(body)
+}
+
+/// The list with a statement more.
+fn listed(
+    braces: Braces,
+    body: Items<Stmt>,
+    stmt: Boxed<Stmt>,
+    frames: Pile<Frame>,
+) -> Result<Pile<Frame>, Stop>
+    ensures { Makes result (frame.List braces (body ++ stmt ∷ []) ∷ frames) }
+{
+    match with_stmt(body, stmt) {
+        Ok(body) => pushed(frames, Frame::List { braces, body }),
+        Err(stop) => {
+            drop(braces);
+            Err(stop)
+        }
     }
 }
 
@@ -201,13 +287,38 @@ fn next_item(
 {
     let mut frames = frames;
     match frames.pop() {
-        Some(Frame::List { braces, body }) => {
-            let mut body = body;
-            body.push(stmt.into_inner())?;
-            let frames = pushed(frames, Frame::List { braces, body })?;
-            item(alloc, site, frames, kind)
+        Some(Frame::List { braces, body }) => match listed(braces, body, stmt, frames) {
+            Ok(frames) => item(alloc, site, frames, kind),
+            Err(stop) => {
+                drop(kind);
+                Err(stop)
+            }
+        },
+        other => {
+            drop(other);
+            drop(kind);
+            Err(Stop::Syntax)
         }
-        _ => Err(Stop::Syntax),
+    }
+}
+
+/// The same below a frame that is put back.
+fn next_item_below(
+    alloc: Global,
+    site: u32,
+    stmt: Boxed<Stmt>,
+    frame: Frame,
+    frames: Pile<Frame>,
+    kind: TokenKind,
+) -> Result<Parser, Stop>
+    ensures { Gives (λ x. x) result (next_item site stmt (frame ∷ frames) kind) }
+{
+    match pushed(frames, frame) {
+        Ok(frames) => next_item(alloc, site, stmt, frames, kind),
+        Err(stop) => {
+            drop(kind);
+            Err(stop)
+        }
     }
 }
 
@@ -220,7 +331,10 @@ fn on_else(stmt: Boxed<Stmt>, frames: Pile<Frame>) -> Result<Parser, Stop>
             let arms = with_arm(arms, site, test, stmt)?;
             below_due(Below::Else { arms }, frames)
         }
-        _ => Err(Stop::Syntax),
+        other => {
+            drop(other);
+            Err(Stop::Syntax)
+        }
     }
 }
 
@@ -236,6 +350,7 @@ fn on_while(
     let mut frames = frames;
     match frames.pop() {
         Some(Frame::Below(Below::Do { site: begin })) => {
+            drop(kind);
             test_due(
                 Part::Do {
                     site: begin,
@@ -245,8 +360,54 @@ fn on_while(
                 frames,
             )
         }
-        Some(frame) => next_item(alloc, site, stmt, pushed(frames, frame)?, kind),
-        None => Err(Stop::Syntax),
+        Some(frame) => next_item_below(alloc, site, stmt, frame, frames, kind),
+        None => {
+            drop(kind);
+            Err(Stop::Syntax)
+        }
+    }
+}
+
+fn after_else(alloc: Global, stmt: Boxed<Stmt>, frames: Pile<Frame>) -> Result<Parser, Stop>
+    ensures { Gives (λ x. x) result (on_else (settle true stmt frames).value (settle true stmt frames).frames) }
+{
+    let over = settle(alloc, true, stmt, frames)?;
+    on_else(over.value, over.frames)
+}
+
+fn after_while(
+    alloc: Global,
+    site: u32,
+    stmt: Boxed<Stmt>,
+    frames: Pile<Frame>,
+    kind: TokenKind,
+) -> Result<Parser, Stop>
+    ensures { Gives (λ x. x) result (on_while site (settle false stmt frames).value (settle false stmt frames).frames kind) }
+{
+    match settle(alloc, false, stmt, frames) {
+        Ok(over) => on_while(alloc, site, over.value, over.frames, kind),
+        Err(stop) => {
+            drop(kind);
+            Err(stop)
+        }
+    }
+}
+
+fn after_list(
+    alloc: Global,
+    site: u32,
+    stmt: Boxed<Stmt>,
+    frames: Pile<Frame>,
+    kind: TokenKind,
+) -> Result<Parser, Stop>
+    ensures { Gives (λ x. x) result (next_item site (settle false stmt frames).value (settle false stmt frames).frames kind) }
+{
+    match settle(alloc, false, stmt, frames) {
+        Ok(over) => next_item(alloc, site, over.value, over.frames, kind),
+        Err(stop) => {
+            drop(kind);
+            Err(stop)
+        }
     }
 }
 
@@ -262,16 +423,10 @@ pub fn after(
 {
     match word_of(&kind) {
         Some(Word::Else) => {
-            let over = settle(alloc, true, stmt, frames)?;
-            on_else(over.value, over.frames)
+            drop(kind);
+            after_else(alloc, stmt, frames)
         }
-        Some(Word::While) => {
-            let over = settle(alloc, false, stmt, frames)?;
-            on_while(alloc, site, over.value, over.frames, kind)
-        }
-        _ => {
-            let over = settle(alloc, false, stmt, frames)?;
-            next_item(alloc, site, over.value, over.frames, kind)
-        }
+        Some(Word::While) => after_while(alloc, site, stmt, frames, kind),
+        _ => after_list(alloc, site, stmt, frames, kind),
     }
 }
