@@ -2,7 +2,7 @@
 
 /// What a `/` begins where it begins no comment (ECMA-262, section 12: the goal symbols
 /// InputElementDiv and InputElementRegExp).
-#[derive(Clone, Copy, Debug, PartialEq, Eq)]
+#[derive(Clone, Copy)]
 pub enum Goal {
     /// A mark: an operand stands before it.
     Division,
@@ -48,7 +48,7 @@ pub struct LexRefusal {
 }
 
 /// What units spell: a token, or something that is refused as a whole.
-#[derive(Clone, Copy, Debug, PartialEq, Eq)]
+#[derive(Clone, Copy)]
 pub enum Lexeme {
     Token(TokenKind),
     Refused,

@@ -8,7 +8,7 @@ use sqlite_items::Items;
 use std::alloc::{AllocError, AllocFailed};
 
 /// The values that an input may have.
-#[derive(Debug, Drop)]
+#[derive(Drop)]
 pub enum Kind {
     /// The whole numbers from `low` to `high`, both safe.
     Int {
@@ -24,14 +24,14 @@ pub enum Kind {
 }
 
 /// An input: its name and its values.
-#[derive(Debug, Drop)]
+#[derive(Drop)]
 pub struct Declared {
     pub name: Units,
     pub kind: Kind,
 }
 
 /// The declared inputs, and how much is spent on them.
-#[derive(Debug, Drop)]
+#[derive(Drop)]
 pub struct Bounds {
     /// Loop turns and calls of one run, from 1 to 1,000,000.
     pub turns: u64,

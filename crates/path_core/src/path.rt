@@ -11,7 +11,7 @@ pub enum InputValue {
 }
 
 /// A value for each declared input, in their order.
-#[derive(Debug, Drop)]
+#[derive(Drop)]
 pub struct Input {
     pub values: Items<InputValue>,
 }
@@ -145,7 +145,7 @@ pub struct Path {
 }
 
 /// What may follow a prefix of a path.
-#[derive(Debug, Drop)]
+#[derive(Drop)]
 pub enum Child {
     Event(Event),
     End(End),

@@ -15,7 +15,7 @@ use std::marker::Model;
 /// Each literal has a place. It is false where the stamp at its place is the present one, and to
 /// clear all marks is to go on to the next stamp. So the time for a step doesn't depend on the
 /// number of variables.
-#[derive(Debug, Drop)]
+#[derive(Drop)]
 pub struct Marks {
     variables: u64,
     stamps: Vec<u64>,

@@ -3,7 +3,7 @@
 use sqlite_items::{Boxed, Items};
 
 /// The flags `g`, `i`, `m` and `y` of a pattern.
-#[derive(Clone, Copy, Debug, PartialEq, Eq)]
+#[derive(Clone, Copy, PartialEq, Eq)]
 pub struct Flags {
     /// `g`. Without effect on a single match.
     pub global: bool,
@@ -16,7 +16,7 @@ pub struct Flags {
 }
 
 /// A class of code units, `[..]` or `[^..]`, or an escape such as `\d`.
-#[derive(Debug, Drop)]
+#[derive(Drop)]
 pub struct ClassSet {
     /// Ranges of code units, with both ends.
     pub ranges: Items<(u16, u16)>,
@@ -25,7 +25,7 @@ pub struct ClassSet {
 }
 
 /// A whole pattern.
-#[derive(Debug, Drop)]
+#[derive(Drop)]
 pub struct Pattern {
     pub node: Node,
     /// How many groups capture. They are numbered from 1.
@@ -34,7 +34,7 @@ pub struct Pattern {
 }
 
 /// A part of a pattern (ECMA-262, section 22.2.1).
-#[derive(Debug, Drop)]
+#[derive(Drop)]
 pub enum Node {
     /// Nothing at all.
     Empty,

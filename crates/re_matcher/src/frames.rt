@@ -42,10 +42,27 @@ pub struct Frame<'a> {
 }
 
 /// A place in the text and the captures so far (ECMA-262, section 22.2.2.1, MatchState).
-#[derive(Drop)]
 pub struct Spot {
     pub place: usize,
     pub groups: Groups,
+}
+
+impl Spot {
+    /// The captures.
+    pub fn into_groups(self) -> Groups
+        ensures { result ≡ self.groups }
+    {
+        let Spot { place: _, groups } = self;
+        groups
+    }
+}
+
+// By hand, so that no function that lets one go takes its list of captures apart for that.
+impl Drop for Spot {
+    fn drop(self) {
+        let Spot { place: _, groups } = self;
+        drop(groups);
+    }
 }
 
 /// A way that is still to be tried. It stores how many frames there were when it was put aside: it

@@ -113,16 +113,9 @@ impl<'a> Machine<'a> {
         if !fits {
             return Ok(());
         }
-        let Spot { place, groups } = spot;
-        self.go_on(
-            text,
-            flags,
-            next,
-            Spot {
-                place: place + by,
-                groups,
-            },
-        )
+        let mut further = spot;
+        further.place += by;
+        self.go_on(text, flags, next, further)
     }
 
     /// Goes on with `next` where the place fits.

@@ -64,11 +64,11 @@ fn first_from(
 {
     'starts: for start in from..=last {
         if let Some(spot) = first_at(alloc, pattern, text, start)? {
-            let Spot { place, groups } = spot;
+            let end = spot.place;
             return Ok(Some(Caps {
                 start,
-                end: place,
-                groups,
+                end,
+                groups: spot.into_groups(),
             }));
         }
     }

@@ -97,11 +97,8 @@ impl<'a> Machine<'a> {
                     if negative {
                         return Ok(None);
                     }
-                    let Spot { place: _, groups } = spot;
-                    let again = Spot {
-                        place: held.place,
-                        groups,
-                    };
+                    let mut again = spot;
+                    again.place = held.place;
                     let kept = self.frames.len();
                     self.choices.push(Choice::Try {
                         frame,
@@ -176,10 +173,10 @@ impl<'a> Machine<'a> {
 fn captured_at(spot: Spot, index: u32, from: usize) -> Spot
     ensures captures { state result ≡ capture index from (state spot) }
 {
-    let Spot { place, mut groups } = spot;
+    let mut closed = spot;
     let at = (index as usize).saturating_sub(1);
-    if at < groups.len() {
-        groups[at] = Some((from, place));
+    if at < closed.groups.len() {
+        closed.groups[at] = Some((from, closed.place));
     }
-    Spot { place, groups }
+    closed
 }

@@ -1,7 +1,7 @@
 //! What the pieces of a pattern's text are.
 
 /// `\d`, `\D`, `\s`, `\S`, `\w` and `\W`.
-#[derive(Clone, Copy, Debug, PartialEq, Eq)]
+#[derive(Clone, Copy)]
 pub enum ClassEscape {
     Digit,
     NotDigit,
@@ -12,14 +12,14 @@ pub enum ClassEscape {
 }
 
 /// A member of a class.
-#[derive(Clone, Copy, Debug, PartialEq, Eq)]
+#[derive(Clone, Copy)]
 pub enum Member {
     One(u16),
     Many(ClassEscape),
 }
 
 /// A member of a class, or two with `-` between them.
-#[derive(Clone, Copy, Debug, PartialEq, Eq)]
+#[derive(Clone, Copy)]
 pub enum ClassItem {
     Single(Member),
     Range(u16, u16),
@@ -28,7 +28,7 @@ pub enum ClassItem {
 }
 
 /// `^`, `$`, `\b` and `\B`.
-#[derive(Clone, Copy, Debug, PartialEq, Eq)]
+#[derive(Clone, Copy)]
 pub enum Assertion {
     LineStart,
     LineEnd,
@@ -37,7 +37,7 @@ pub enum Assertion {
 }
 
 /// `(`, `(?:`, `(?=` and `(?!`.
-#[derive(Clone, Copy, Debug, PartialEq, Eq)]
+#[derive(Clone, Copy)]
 pub enum GroupKind {
     Capturing,
     Plain,
@@ -46,7 +46,7 @@ pub enum GroupKind {
 }
 
 /// An atom but a group or a class in brackets.
-#[derive(Clone, Copy, Debug, PartialEq, Eq)]
+#[derive(Clone, Copy)]
 pub enum Atom {
     Dot,
     Unit(u16),
@@ -54,7 +54,7 @@ pub enum Atom {
     Back(u32),
 }
 
-#[derive(Clone, Copy, Debug, PartialEq, Eq)]
+#[derive(Clone, Copy)]
 pub enum Piece {
     Bar,
     Close,
@@ -66,13 +66,13 @@ pub enum Piece {
 }
 
 /// The numbers in braces.
-#[derive(Clone, Copy, Debug, PartialEq, Eq)]
+#[derive(Clone, Copy)]
 pub struct Braces {
     pub least: u32,
     pub most: Option<u32>,
 }
 
-#[derive(Clone, Copy, Debug, PartialEq, Eq)]
+#[derive(Clone, Copy)]
 pub struct Quantifier {
     pub min: u32,
     pub max: Option<u32>,

@@ -11,7 +11,7 @@ ghost use Rattle.re_parser.specs.Answers.{Answered, FlagsAnswer, Kinds, IsRefusa
 use crate::flags::read_flags;
 use crate::reader::{Backreference, Reader, read_all};
 use crate::refusal::{Fault, PatternRefusal};
-use crate::trees::{alt_of, seq_of};
+use crate::trees::disjunction;
 use js_units::Units;
 use re_ast::{Flags, Node, Pattern};
 use std::alloc::Global;
@@ -64,15 +64,16 @@ fn tree_of(reader: Reader) -> Result<(Node, u32), Fault>
     ensures { Gives (λ x. (x.1, x.0)) result (Some (whole_of reader)) }
 {
     let Reader {
-        frames: _,
+        frames,
         alternatives,
         terms,
         groups,
-        backs: _,
+        backs,
     } = reader;
-    let mut alternatives = alternatives;
-    alternatives.push(seq_of(terms))?;
-    Ok((alt_of(alternatives), u32::from(groups)))
+    drop(frames);
+    drop(backs);
+    let node = disjunction(alternatives, terms)?;
+    Ok((node, u32::from(groups)))
 }
 
 /// What a body that was read to its end spells.
@@ -81,9 +82,11 @@ fn whole(reader: Reader, length: usize) -> Result<(Node, u32), PatternRefusal>
     ensures place { EndAnswer reader length result }
 {
     if reader.frames.len() > 0 {
+        drop(reader);
         return Err(PatternRefusal::Syntax { at: length });
     }
     if let Some(back) = first_unbound(reader.backs.as_slice(), reader.groups) {
+        drop(reader);
         return Err(PatternRefusal::BackrefRange {
             at: length.saturating_sub(back.left),
         });

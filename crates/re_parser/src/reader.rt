@@ -11,10 +11,11 @@ use crate::kinds::{Atom, GroupKind, Piece};
 use crate::pieces::piece;
 use crate::pile::Pile;
 use crate::refusal::Fault;
-use crate::trees::{alt_of, assertion_node, atom_node, closed, quantified, seq_of};
+use crate::trees::{assertion_node, atom_node, closed, disjunction, quantified, seq_of};
 use re_ast::{ClassSet, Node};
 use sqlite_items::Items;
 use std::alloc::Global;
+use std::mem::replace;
 
 /// At most this many `(` are open at a place.
 const MAX_OPEN: usize = 100;
@@ -65,62 +66,47 @@ impl Reader {
     }
 }
 
-fn with_term(reader: Reader, node: Node, rest: &[u16]) -> Result<(Reader, &[u16]), Fault>
-    ensures read { Gives (λ x. (x.0, x.1.now)) result (Some (with_term reader (node, rest.now))) }
-    ensures behind { IfOk result (λ x. x.1.now ≡ rest.now) }
+fn with_term<'a>(reader: &mut Reader, node: Node, rest: &'a [u16]) -> Result<&'a [u16], Fault>
+    ensures read { Gives (λ x. (reader.new, x.now)) result (Some (with_term reader.old (node, rest.now))) }
+    ensures behind { IfOk result (λ x. x.now ≡ rest.now) }
 {
-    let mut reader = reader;
     reader.terms.push(node)?;
-    Ok((reader, rest))
+    Ok(rest)
 }
 
 /// A `|`.
-fn with_bar(alloc: Global, reader: Reader) -> Result<Reader, Fault>
-    ensures { Gives (λ x. x) result (Some (with_bar reader)) }
+fn with_bar(alloc: Global, reader: &mut Reader) -> Result<(), Fault>
+    ensures { Gives (λ _. reader.new) result (Some (with_bar reader.old)) }
 {
-    let Reader {
-        frames,
-        alternatives,
-        terms,
-        groups,
-        backs,
-    } = reader;
-    let mut alternatives = alternatives;
-    alternatives.push(seq_of(terms))?;
-    Ok(Reader {
-        frames,
-        alternatives,
-        terms: Items::new(alloc),
-        groups,
-        backs,
-    })
+    let terms = replace(&mut reader.terms, Items::new(alloc));
+    reader.alternatives.push(seq_of(terms))?;
+    Ok(())
 }
 
-fn with_back(reader: Reader, atom: Atom, left: usize) -> Result<Reader, Fault>
-    ensures { Gives (λ x. x) result (Some (with_back reader atom left)) }
+fn with_back(reader: &mut Reader, atom: Atom, left: usize) -> Result<(), Fault>
+    ensures { Gives (λ _. reader.new) result (Some (with_back reader.old atom left)) }
 {
-    let mut reader = reader;
     match atom {
         Atom::Back(number) => {
             reader.backs.push(Backreference { number, left })?;
-            Ok(reader)
+            Ok(())
         }
-        _ => Ok(reader),
+        _ => Ok(()),
     }
 }
 
 fn with_atom<'a>(
     alloc: Global,
-    reader: Reader,
+    reader: &mut Reader,
     atom: Atom,
     units: &[u16],
     rest: &'a [u16],
-) -> Result<(Reader, &'a [u16]), Fault>
-    ensures read { Gives (λ x. (x.0, x.1.now)) result (Some (with_atom reader atom units.now rest.now)) }
-    ensures shorter { IfOk result (λ x. length x.1.now ≤ length rest.now) }
+) -> Result<&'a [u16], Fault>
+    ensures read { Gives (λ x. (reader.new, x.now)) result (Some (with_atom reader.old atom units.now rest.now)) }
+    ensures shorter { IfOk result (λ x. length x.now ≤ length rest.now) }
 {
+    with_back(reader, atom, units.len())?;
     let next = u32::from(reader.groups) + 1;
-    let reader = with_back(reader, atom, units.len())?;
     let node = atom_node(alloc, atom)?;
     let (term, behind) = quantified(alloc, next, node, next, rest)?;
     with_term(reader, term, behind)
@@ -144,9 +130,9 @@ fn begun(kind: GroupKind, before: u8) -> Option<u8>
 }
 
 /// A `(`, with `left` units from it on.
-fn with_open(alloc: Global, reader: Reader, kind: GroupKind, left: usize) -> Result<Reader, Fault>
-    ensures read { Gives (λ x. x) result (with_open reader kind) }
-    ensures faults { Faults (OpenFault reader kind left) result }
+fn with_open(alloc: Global, reader: &mut Reader, kind: GroupKind, left: usize) -> Result<(), Fault>
+    ensures read { Gives (λ _. reader.new) result (with_open reader.old kind) }
+    ensures faults { Faults (OpenFault reader.old kind left) result }
 {
     if reader.frames.len() >= MAX_OPEN {
         return Err(Fault::Syntax { left });
@@ -154,77 +140,57 @@ fn with_open(alloc: Global, reader: Reader, kind: GroupKind, left: usize) -> Res
     let Some(within) = begun(kind, reader.groups) else {
         return Err(Fault::TooManyGroups { left });
     };
-    let Reader {
-        frames,
-        alternatives,
-        terms,
-        groups,
-        backs,
-    } = reader;
-    let mut frames = frames;
-    frames.push(Frame {
+    let alternatives = replace(&mut reader.alternatives, Items::new(alloc));
+    let terms = replace(&mut reader.terms, Items::new(alloc));
+    reader.frames.push(Frame {
         kind,
-        before: groups,
+        before: reader.groups,
         alternatives,
         terms,
     })?;
-    Ok(Reader {
-        frames,
-        alternatives: Items::new(alloc),
-        terms: Items::new(alloc),
-        groups: within,
-        backs,
-    })
+    reader.groups = within;
+    Ok(())
 }
 
 /// A `)`, with `left` units from it on.
-fn with_close(
+fn with_close<'a>(
     alloc: Global,
-    reader: Reader,
-    rest: &[u16],
+    reader: &mut Reader,
+    rest: &'a [u16],
     left: usize,
-) -> Result<(Reader, &[u16]), Fault>
-    ensures read { Gives (λ x. (x.0, x.1.now)) result (with_close reader rest.now) }
-    ensures faults { Faults (CloseFault reader left) result }
-    ensures shorter { IfOk result (λ x. length x.1.now ≤ length rest.now) }
+) -> Result<&'a [u16], Fault>
+    ensures read { Gives (λ x. (reader.new, x.now)) result (with_close reader.old rest.now) }
+    ensures faults { Faults (CloseFault reader.old left) result }
+    ensures shorter { IfOk result (λ x. length x.now ≤ length rest.now) }
 {
-    let Reader {
-        frames,
-        alternatives,
-        terms,
-        groups,
-        backs,
-    } = reader;
-    let mut frames = frames;
-    let Some(frame) = frames.pop() else {
+    let past = u32::from(reader.groups) + 1;
+    let Some(frame) = reader.frames.pop() else {
         return Err(Fault::Syntax { left });
     };
-    let mut alternatives = alternatives;
-    alternatives.push(seq_of(terms))?;
-    let first = u32::from(frame.before) + 1;
-    let past = u32::from(groups) + 1;
-    let body = alt_of(alternatives);
-    let (term, behind) = closed(alloc, frame.kind, first, body, past, rest)?;
-    let outer = Reader {
-        frames,
-        alternatives: frame.alternatives,
-        terms: frame.terms,
-        groups,
-        backs,
-    };
-    with_term(outer, term, behind)
+    let Frame {
+        kind,
+        before,
+        alternatives,
+        terms,
+    } = frame;
+    let alternatives = replace(&mut reader.alternatives, alternatives);
+    let terms = replace(&mut reader.terms, terms);
+    let body = disjunction(alternatives, terms)?;
+    let first = u32::from(before) + 1;
+    let (term, behind) = closed(alloc, kind, first, body, past, rest)?;
+    with_term(reader, term, behind)
 }
 
 /// `[` or `[^`.
-fn with_class(
+fn with_class<'a>(
     alloc: Global,
-    reader: Reader,
+    reader: &mut Reader,
     negated: bool,
-    inside: &[u16],
-) -> Result<(Reader, &[u16]), Fault>
-    ensures read { ClassTurns reader negated inside.now (map_ok (λ x. (x.0, x.1.now)) result) }
+    inside: &'a [u16],
+) -> Result<&'a [u16], Fault>
+    ensures read { ClassTurns reader.old negated inside.now (map_ok (λ x. (reader.new, x.now)) result) }
     ensures faults { Faults (FaultOf MembersGo MembersStop NoMark inside.now) result }
-    ensures shorter { IfOk result (λ x. length x.1.now ≤ length inside.now) }
+    ensures shorter { IfOk result (λ x. length x.now ≤ length inside.now) }
 {
     let (ranges, rest) = members(alloc, inside)?;
     let next = u32::from(reader.groups) + 1;
@@ -236,48 +202,48 @@ fn with_class(
 /// One piece, behind which `rest` stands; `units` are those from the piece on.
 fn turn<'a>(
     alloc: Global,
-    reader: Reader,
+    reader: &mut Reader,
     units: &[u16],
     piece: Piece,
     rest: &'a [u16],
-) -> Result<(Reader, &'a [u16]), Fault>
-    ensures read { Turns reader units.now piece rest.now (map_ok (λ x. (x.0, x.1.now)) result) }
-    ensures faults { Faults (TurnFault reader units.now piece rest.now) result }
-    ensures shorter { IfOk result (λ x. length x.1.now ≤ length rest.now) }
+) -> Result<&'a [u16], Fault>
+    ensures read { Turns reader.old units.now piece rest.now (map_ok (λ x. (reader.new, x.now)) result) }
+    ensures faults { Faults (TurnFault reader.old units.now piece rest.now) result }
+    ensures shorter { IfOk result (λ x. length x.now ≤ length rest.now) }
 {
     match piece {
         Piece::Bar => {
-            let next = with_bar(alloc, reader)?;
-            Ok((next, rest))
+            with_bar(alloc, reader)?;
+            Ok(rest)
         }
         Piece::Close => {
-            let (next, behind) = with_close(alloc, reader, rest, units.len())?;
-            Ok((next, behind))
+            let behind = with_close(alloc, reader, rest, units.len())?;
+            Ok(behind)
         }
         Piece::Open(kind) => {
-            let next = with_open(alloc, reader, kind, units.len())?;
-            Ok((next, rest))
+            with_open(alloc, reader, kind, units.len())?;
+            Ok(rest)
         }
         Piece::Assertion(assertion) => {
-            let (next, behind) = with_term(reader, assertion_node(assertion), rest)?;
-            Ok((next, behind))
+            let behind = with_term(reader, assertion_node(assertion), rest)?;
+            Ok(behind)
         }
         Piece::Atom(atom) => {
-            let (next, behind) = with_atom(alloc, reader, atom, units, rest)?;
-            Ok((next, behind))
+            let behind = with_atom(alloc, reader, atom, units, rest)?;
+            Ok(behind)
         }
         Piece::Class(negated) => {
-            let (next, behind) = with_class(alloc, reader, negated, rest)?;
-            Ok((next, behind))
+            let behind = with_class(alloc, reader, negated, rest)?;
+            Ok(behind)
         }
     }
 }
 
 /// The piece in front.
-fn step(alloc: Global, reader: Reader, units: &[u16]) -> Result<(Reader, &[u16]), Fault>
+fn step<'a>(alloc: Global, reader: &mut Reader, units: &'a [u16]) -> Result<&'a [u16], Fault>
     requires { 0 < length units.now }
-    ensures read { Steps reader units.now (map_ok (λ x. (x.0, x.1.now)) result) }
-    ensures shorter { IfOk result (λ x. length x.1.now < length units.now) }
+    ensures read { Steps reader.old units.now (map_ok (λ x. (reader.new, x.now)) result) }
+    ensures shorter { IfOk result (λ x. length x.now < length units.now) }
 {
     let deep = reader.frames.len() >= MAX_OPEN;
     let Some((piece, rest)) = piece(units) else {
@@ -293,11 +259,8 @@ pub fn read_all(alloc: Global, units: &[u16]) -> Result<Reader, Fault>
     let mut reader = Reader::new(alloc);
     let mut left = units;
     while left.len() > 0 {
-        match step(alloc, reader, left) {
-            Ok((next, behind)) => {
-                reader = next;
-                left = behind;
-            }
+        match step(alloc, &mut reader, left) {
+            Ok(behind) => left = behind,
             Err(fault) => return Err(fault),
         }
     }

@@ -20,7 +20,7 @@ pub enum PatternRefusal {
 }
 
 /// A refusal with the number of units from its place on.
-#[derive(Clone, Copy, Debug, PartialEq, Eq)]
+#[derive(Clone, Copy)]
 pub enum Fault {
     Syntax { left: usize },
     BadEscape { left: usize },

@@ -1,6 +1,6 @@
 //! Trees of what was read, and the ranges of classes.
 
-ghost use Rattle.std.specs.Prelude.{◌≡◌, ◌++◌, ◌<◌, ◌≤◌, length, Some, IfOk};
+ghost use Rattle.std.specs.Prelude.{◌≡◌, ◌++◌, [], ◌∷◌, ◌<◌, ◌≤◌, length, Some, IfOk};
 ghost use Rattle.re_parser.specs.Escapes.{units_of, member_units, item_units};
 ghost use Rattle.re_parser.specs.Grammar.{seq_of, alt_of, assertion_node, atom_node, quantified, closed};
 ghost use Rattle.re_parser.specs.Reading.{Gives};
@@ -152,7 +152,7 @@ pub fn seq_of(terms: Items<Node>) -> Node
 }
 
 /// Alternatives as one node: one is itself.
-pub fn alt_of(alternatives: Items<Node>) -> Node
+fn alt_of(alternatives: Items<Node>) -> Node
     ensures { result ≡ alt_of alternatives }
 {
     let mut alternatives = alternatives;
@@ -163,6 +163,15 @@ pub fn alt_of(alternatives: Items<Node>) -> Node
         Some(alternative) => alternative,
         None => Node::Empty,
     }
+}
+
+/// Alternatives, and the terms of one more, as one node.
+pub fn disjunction(alternatives: Items<Node>, terms: Items<Node>) -> Result<Node, Fault>
+    ensures { Gives (λ x. x) result (Some (alt_of (alternatives ++ seq_of terms ∷ []))) }
+{
+    let mut alternatives = alternatives;
+    alternatives.push(seq_of(terms))?;
+    Ok(alt_of(alternatives))
 }
 
 #[tactic(auto, unfolding(crate::specs::Grammar::assertion_node))]

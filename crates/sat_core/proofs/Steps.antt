@@ -11,14 +11,12 @@ use Rattle.cnf_core.specs.Literals.{Names}
 use Rattle.cnf_core.specs.Validity.{among, is_valid}
 use Rattle.cnf_core.specs.Derivations.{known_with, StepsWithin, AllValid, HasEmpty, IsFresh, AllFresh}
 use Rattle.sat_core.specs.declared.trail.Entry.{Entry}
+use Rattle.sat_core.specs.Endings.{derivation_of}
 use Rattle.sat_core.specs.Trails.{Assigned, unassigned, is_false, IsFree, IsTrail, AreNamed}
 use Rattle.sat_core.specs.Rest.{IsRest, IsConflict, IsSettled, IsRested, Grows}
 use Rattle.sat_core.specs.Learning.{negated_decisions, reasons}
 use Rattle.sat_core.proofs.Growing.{trail_append, rested_append, grown_trail, grown_rested}
 use Rattle.sat_core.proofs.Learnt.{learnt_valid, learnt_named, learnt_fresh}
-
-abbrev pub derivation_of : List ProofStep → Derivation
-derivation_of steps = record { steps = steps }
 
 -- every step is valid and new, and the trail follows from the clauses and steps, with each decision made at rest
 pub record IsSearch (cnf : Cnf) (steps : List ProofStep) (assigned : Assigned) : Type 0 where

@@ -4,3 +4,4 @@ pub mod Kept
 pub mod Rest
 pub mod Learning
 pub mod Answers
+pub mod Endings

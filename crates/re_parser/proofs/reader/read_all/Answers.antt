@@ -11,8 +11,8 @@ loop-left-init c = subst (λ (q : Reader). IsStep start c.args.units.now (q, c.a
 
 pub loop-left-preserved : goal.loop-left-preserved
 loop-left-preserved c = (
-  step_both start c.loop-left.reader c.in-Ok.next c.args.units.now c.loop-left.left.now c.in-Ok.behind.now c.loop-left.invariant.0 c.in-Ok.ensures.read.0,
-  backs_next c.args.units.now c.loop-left.reader c.in-Ok.next c.loop-left.left.now c.loop-left.invariant.0 c.loop-left.invariant.1 c.in-Ok.ensures.read.1,
+  step_both start c.loop-left.reader c.step.new.reader c.args.units.now c.loop-left.left.now c.in-Ok.behind.now c.loop-left.invariant.0 c.in-Ok.ensures.read.0,
+  backs_next c.args.units.now c.loop-left.reader c.step.new.reader c.loop-left.left.now c.loop-left.invariant.0 c.loop-left.invariant.1 c.in-Ok.ensures.read.1,
 )
 
 pub returns-in-Err : goal.returns-in-Err

@@ -11,13 +11,6 @@ choices-preserved-in-Try c = record {
   sound = sound_rest c.args.flags c.args.text.now _ _ _ _ _ c.in-Some.ensures;
 }
 
-pub choices-preserved-in-Try-2 : goal.choices-preserved-in-Try-2
-choices-preserved-in-Try-2 c = record {
-  same = (found_first c.args.flags c.args.text.now c.choices.self.frames c.pop.new.self.frames c.choices.self.choices c.pop.new.self.choices c.in-Some.choice c.in-Try.frame c.in-Try.kept c.in-Try.spot (state c.args.spot) c.in-Some.ensures c.in-Try.is).0 ∙ c.choices.invariant.same;
-  less = omega (arith, (found_first c.args.flags c.args.text.now c.choices.self.frames c.pop.new.self.frames c.choices.self.choices c.pop.new.self.choices c.in-Some.choice c.in-Try.frame c.in-Try.kept c.in-Try.spot (state c.args.spot) c.in-Some.ensures c.in-Try.is).1, c.choices.invariant.less);
-  sound = sound_rest c.args.flags c.args.text.now _ _ _ _ _ c.in-Some.ensures;
-}
-
 pub returns-then-negative-clause-found : goal.returns-then-negative-clause-found
 returns-then-negative-clause-found c =
     going c.args.flags c.args.text.now _ _ _ c.choices.invariant.same c.choices.invariant.less
@@ -38,6 +31,3 @@ returns-in-Mark-clause-sound c =
 
 pub choices-smaller-in-Try : goal.choices-smaller-in-Try
 choices-smaller-in-Try c = omega (arith, ap length c.in-Some.ensures.rest)
-
-pub choices-smaller-in-Try-2 : goal.choices-smaller-in-Try-2
-choices-smaller-in-Try-2 c = omega (arith, ap length c.in-Some.ensures.rest)
