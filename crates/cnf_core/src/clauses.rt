@@ -9,7 +9,7 @@ use sqlite_items::Items;
 
 /// A formula in conjunctive normal form: clauses, each of which says that one of its literals is
 /// true. They are numbered from 1.
-#[derive(Debug, Drop)]
+#[derive(Drop)]
 pub struct Cnf {
     /// How many variables there are. They are numbered from 1.
     pub variables: u64,
@@ -23,14 +23,14 @@ pub struct Cnf {
 /// and, with each of its literals assumed false, every hinted clause but the last, in order, has
 /// exactly one literal that isn't false, and that one isn't yet true (it is then made true); and
 /// every literal of the last hinted clause is false.
-#[derive(Debug, Drop)]
+#[derive(Drop)]
 pub struct ProofStep {
     pub clause: Items<Lit>,
     pub hints: Items<u64>,
 }
 
 /// Steps. Their numbers go on behind those of the clauses.
-#[derive(Debug, Drop)]
+#[derive(Drop)]
 pub struct Derivation {
     pub steps: Items<ProofStep>,
 }

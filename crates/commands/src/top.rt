@@ -12,7 +12,7 @@ use std::thread::Threads;
 
 /// How a run went: 0 done, 2 usage, 3 read fault, 4 write fault, 5 script refused, 6 bounds refused, 7 want of
 /// memory, 8 file too long.
-#[derive(Clone, Copy, Debug, PartialEq, Eq)]
+#[derive(Clone, Copy, PartialEq, Eq)]
 pub struct Status {
     pub number: u8,
 }

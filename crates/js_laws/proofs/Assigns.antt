@@ -31,8 +31,8 @@ use Rattle.js_reading.specs.Frames.{depth, takes_assign}
 use Rattle.js_reading.specs.Operands.{at, reached, wants, value_of, tail_of, target_of, parameter_of, headed}
 use Rattle.js_reading.specs.Reading.{operand_on, nesting}
 use Rattle.js_laws.proofs.Steps.{Leads, ◌⟫◌, take, take_beside, ending_at}
-use Rattle.js_laws.proofs.Settle.{settled_as, grip, room_assign, unary_assign, value_settled, tail_settled, literal_settled, never_bare, target_call, settle_as, pending_settles}
-use Rattle.js_laws.proofs.Motives.{Stands, ends_loose, on_loose, Reads, AssignReads, ConditionalReads, LevelReads, FirstReads, TargetReads, BodyReads, StmtsReads, from_start, sited}
+use Rattle.js_laws.proofs.WaitingFrames.{settled_as, grip, room_assign, unary_assign, value_settled, tail_settled, literal_settled, never_bare, target_call, settle_as, pending_settles}
+use Rattle.js_laws.proofs.ReadParts.{Stands, ends_loose, on_loose, Reads, AssignReads, ConditionalReads, LevelReads, FirstReads, TargetReads, BodyReads, StmtsReads, from_start, sited}
 use Rattle.js_laws.proofs.Chains.{grows, before_question, question_on}
 
 -- ---- conditionals

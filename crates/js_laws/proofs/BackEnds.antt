@@ -49,7 +49,7 @@ use Rattle.js_reading.specs.Operands.{at, tail_of, wrapped, is_literal, whole, c
 use Rattle.js_reading.specs.Statements.{arm, settle, with_declarator, declared, is_statement, is_let, over_of, declaration_over, after, semicolon_part, close_round_part, comma_part, bare}
 use Rattle.js_reading.specs.Reading.{continues_by, ends_before, close_round_of, on_close_round, comma_of, on_comma, semicolon_of, on_semicolon, close_brace_of, on_close_brace, step_mark, ends_by, step_in, step, script_of, ended, no_more, ended_ending, ended_trying, ended_opening, ended_operand, ending_in, ends}
 use Rattle.js_laws.proofs.Left.{deep, tok, is_close_square, Closing, AfterArgument, ArrowIn, Holds, Targets, Overs, NotStatic, LeftCall, LeftOperand, LeftStatement, left_in, Left, Next}
-use Rattle.js_laws.proofs.Climb.{some_is, bind_some, up_unary, whole_left}
+use Rattle.js_laws.proofs.ThroughFrames.{some_is, bind_some, up_unary, whole_left}
 use Rattle.js_laws.proofs.BackOperators.{fronted, next_bind, next_when, not_static, primary_left, called_left, accessed_left, arguments_of, back_arrow, back_step, back_continues}
 use Rattle.js_laws.proofs.BackOperands.{back_want, back_piece, back_heading, update_of, test_of}
 use Rattle.js_laws.proofs.BackStatements.{back_after, back_item, back_below}

@@ -52,7 +52,7 @@ use Rattle.js_reading.specs.Operands.{at, wants, prefixed, stepped, want_binary,
 use Rattle.js_reading.specs.Statements.{braces_on}
 use Rattle.js_reading.specs.Reading.{heading_on}
 use Rattle.js_laws.proofs.Left.{rank_chain, awaits, before_part, deep, tok, is_close_square, NamesNest, IsAt, lead, AfterMember, UpdateIn, TestIn, BracesIn, out_by, Holds, Targets, UpAt, Wanted, ArrowIn, AfterName, Starts, LeftPiece, LeftHeading, Headed, InnerNames, LeftWant, NotStatic, Static, LeftCall, LeftOperand, Next}
-use Rattle.js_laws.proofs.Climb.{some_is, deep_is, level_fits}
+use Rattle.js_laws.proofs.ThroughFrames.{some_is, deep_is, level_fits}
 use Rattle.js_laws.proofs.BackOperators.{fronted, next_when, next_unless, primary_left, called_left, accessed_left, back_to_arrow, arguments_of}
 
 abbrev pub is_text : TokenKind → Bool

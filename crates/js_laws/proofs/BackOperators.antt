@@ -36,7 +36,7 @@ use Rattle.js_reading.specs.Frames.{◌>>=◌, when, context, conditional, takes
 use Rattle.js_reading.specs.Operands.{reached, wants, value_of, tail_of, target_of, parameter_of, first_of, suffixes_of, closed, opens_binary, place_binary, on_binary, level_of, place_logical, on_logical, on_question, on_assign, to_arrow, on_arrow, on_step, on_dot, on_round, on_square}
 use Rattle.js_reading.specs.Reading.{continues_by}
 use Rattle.js_laws.proofs.Left.{Rank, rank_chain, rank_short, rank_whole, order, lower, one_less, under, awaits_logical, rank_logical, awaits, deep, tok, is_close_square, IsAt, IsGoingOn, lead, Closing, AccessIn, AfterArgument, SetsIn, BehindIn, Holds, Targets, UpAt, ArrowIn, LeftWant, NotStatic, LeftCall, LeftOperand, Left, Next}
-use Rattle.js_laws.proofs.Climb.{some_is, level_is, level_fits, IsFine, fine_binary, fine_awaits, fine_rank_logical, lowered, going_more, gone_on, Tight, up_here, closed_left, closed_tight}
+use Rattle.js_laws.proofs.ThroughFrames.{some_is, level_is, level_fits, IsFine, fine_binary, fine_awaits, fine_rank_logical, lowered, going_more, gone_on, Tight, up_here, closed_left, closed_tight}
 
 pub fronted : (kind : TokenKind) (site : ℕ) (line : Bool) (ts : List Token) → Begins (tok kind site line ∷ ts) kind site ts
 fronted kind site line ts = record { line = line; begins = refl }

@@ -34,7 +34,7 @@ use Rattle.js_reading.specs.Operands.{at, word_of, whole}
 use Rattle.js_reading.specs.Statements.{arm, settle, close_list, test_due, express, loop_word, inner_word, inner, item_word, close_braces, item, next_item, on_else, on_while, after}
 use Rattle.js_reading.specs.Reading.{below_by}
 use Rattle.js_laws.proofs.Left.{above, above_last, deep, tok, Fits, FitsName, lead, ElseIn, IfTail, DeclaredIn, DeclareIn, DeclaratorIn, ClosedIn, ListIn, BracesIn, Overs, LeftWant, LeftOpening, LeftEnding, InnerIn, ItemIn, LeftStatement, LeftBelow, Next}
-use Rattle.js_laws.proofs.Climb.{above_is, above_more, above_last_more, deep_is}
+use Rattle.js_laws.proofs.ThroughFrames.{above_is, above_more, above_last_more, deep_is}
 use Rattle.js_laws.proofs.BackOperators.{fronted, next_when, primary_left, braced_left}
 use Rattle.js_laws.proofs.BackOperands.{back_want, back_want_word}
 

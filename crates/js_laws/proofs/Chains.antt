@@ -29,8 +29,8 @@ use Rattle.js_reading.specs.Frames.{◌>>=◌, tightness_of, takes_unary}
 use Rattle.js_reading.specs.Operands.{reached, wants, value_of, tail_of, target_of, want, opens_binary, on_binary, level_of, opens_logical, on_logical, on_question}
 use Rattle.js_reading.specs.Reading.{operand_on}
 use Rattle.js_laws.proofs.Steps.{Leads, stays, ◌⟫◌, take, take_beside, ending_at}
-use Rattle.js_laws.proofs.Settle.{not_less, settled_as, grip_by, grip, grip_at, room_of, room, room_unary, value_settled, tail_settled, literal_settled, target_call, settle_as, pending_settles, step_settles}
-use Rattle.js_laws.proofs.Motives.{Stands, Alone, GoesOn, LevelReads, CallReads, TargetReads, from_start}
+use Rattle.js_laws.proofs.WaitingFrames.{not_less, settled_as, grip_by, grip, grip_at, room_of, room, room_unary, value_settled, tail_settled, literal_settled, target_call, settle_as, pending_settles, step_settles}
+use Rattle.js_laws.proofs.ReadParts.{Stands, Alone, GoesOn, LevelReads, CallReads, TargetReads, from_start}
 
 -- ---- tails that operators may follow
 

@@ -26,8 +26,8 @@ use Rattle.js_reading.specs.declared.frame.Braces.TheVariants as list
 use Rattle.js_reading.specs.Frames.{tightness_of}
 use Rattle.js_reading.specs.Operands.{level_of}
 use Rattle.js_reading.specs.Reading.{start as start_state, IsRead}
-use Rattle.js_laws.proofs.Settle.{grip, room_of}
-use Rattle.js_laws.proofs.Motives.{AssignReads, ConditionalReads, LevelReads, CallReads, FirstReads, TargetReads, AccessReads, SuffixesReads, ArgumentsReads, MemberReads, MembersReads, BodyReads, StmtsReads, StmtReads, InnerReads, BelowReads, IfReads, RoundReads, DeclaratorReads, DeclaratorsReads, HeadReads, OptionalReads, CatchReads, FinallyReads, OptionalFinallyReads}
+use Rattle.js_laws.proofs.WaitingFrames.{grip, room_of}
+use Rattle.js_laws.proofs.ReadParts.{AssignReads, ConditionalReads, LevelReads, CallReads, FirstReads, TargetReads, AccessReads, SuffixesReads, ArgumentsReads, MemberReads, MembersReads, BodyReads, StmtsReads, StmtReads, InnerReads, BelowReads, IfReads, RoundReads, DeclaratorReads, DeclaratorsReads, HeadReads, OptionalReads, CatchReads, FinallyReads, OptionalFinallyReads}
 use Rattle.js_laws.proofs.Primaries.{this_reads, name_reads, null_reads, true_reads, false_reads, number_reads, text_reads, arguments_none_read, arguments_last_read, arguments_more_read, new_reads, array_reads, object_reads, round_reads, target_round_reads, target_name_reads, property_reads, static_reads, index_reads, no_suffixes, access_suffix, call_suffix, call_reads, target_access_reads, shorthand_reads, member_value_reads, members_none_read, members_last_read, members_more_read}
 use Rattle.js_laws.proofs.Chains.{grows, before_binary, before_logical, LinksOn, LinksFrom, links_none_on, links_more_on, links_none_from, links_more_from, chain_all_reads, BitsOn, BitsFrom, bits_none_on, bits_more_on, bits_none_from, bits_more_from, logical_all_reads, prefix_reads, step_reads, behind_reads, unary_call_reads}
 use Rattle.js_laws.proofs.Assigns.{conditional_short_reads, conditional_both_reads, assign_conditional_reads, assign_sets_reads, arrow_reads, arrow_block_reads, body_reads, function_reads}

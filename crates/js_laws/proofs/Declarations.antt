@@ -31,8 +31,8 @@ use Rattle.js_reading.specs.Statements.{with_declarator, declared, declares_more
 use Rattle.js_reading.specs.Reading.{ended, ending_in}
 use Rattle.std.proofs.lemmas.List.Elements.{All-head, All-tail}
 use Rattle.js_laws.proofs.Steps.{Leads, ◌⟫◌, take, ending_at, alike}
-use Rattle.js_laws.proofs.Settle.{grip}
-use Rattle.js_laws.proofs.Motives.{ends_loose, on_loose, AssignReads, StmtReads, extend, Follows, DeclaratorReads, DeclaratorsReads, HeadReads}
+use Rattle.js_laws.proofs.WaitingFrames.{grip}
+use Rattle.js_laws.proofs.ReadParts.{ends_loose, on_loose, AssignReads, StmtReads, extend, Follows, DeclaratorReads, DeclaratorsReads, HeadReads}
 use Rattle.js_laws.proofs.Ends.{no_after, end_grip, may_at, no_semicolon, bare_ends, may_end_by, at_same, part_ends}
 
 abbrev no_value : Identifier → Declarator Expr

@@ -24,8 +24,8 @@ use Rattle.js_reading.specs.Operands.{at, reached, value_of, tail_of, want}
 use Rattle.js_reading.specs.Statements.{joined, waits, settle, of_part, over, item, next_item, after, semicolon_part, ends_bare, do_on, jump_on, return_on}
 use Rattle.js_reading.specs.Reading.{ends_before, ends_by, operand_on, ended, no_more}
 use Rattle.js_laws.proofs.Steps.{Leads, take, Same, alike}
-use Rattle.js_laws.proofs.Settle.{grip_by, grip}
-use Rattle.js_laws.proofs.Motives.{ends_loose, on_loose}
+use Rattle.js_laws.proofs.WaitingFrames.{grip_by, grip}
+use Rattle.js_laws.proofs.ReadParts.{ends_loose, on_loose}
 
 -- ---- tokens that begin no statement
 

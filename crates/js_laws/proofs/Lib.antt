@@ -1,6 +1,6 @@
 pub mod Steps
-pub mod Settle
-pub mod Motives
+pub mod WaitingFrames
+pub mod ReadParts
 pub mod Primaries
 pub mod Chains
 pub mod Assigns
@@ -12,13 +12,13 @@ pub mod Tries
 pub mod Complete
 pub mod Certain
 pub mod Left
-pub mod Climb
+pub mod ThroughFrames
 pub mod BackOperators
 pub mod BackOperands
 pub mod BackStatements
 pub mod BackOpenings
 pub mod BackEnds
 pub mod Sound
-pub mod Fit
-pub mod Enough
+pub mod FittingStacks
+pub mod Closings
 pub mod Places

@@ -28,7 +28,7 @@ use Rattle.js_reading.specs.Frames.{context, begun, within_below}
 use Rattle.js_reading.specs.Operands.{at, wants, value_of, want}
 use Rattle.js_reading.specs.Statements.{do_over, for_head_on, named_on}
 use Rattle.js_laws.proofs.Steps.{◌⟫◌, take, ending_at, alike}
-use Rattle.js_laws.proofs.Motives.{Stands, part_stands, ends_loose, on_loose, AssignReads, begins_inner, InnerReads, BelowReads, RoundReads, HeadReads, OptionalReads}
+use Rattle.js_laws.proofs.ReadParts.{Stands, part_stands, ends_loose, on_loose, AssignReads, begins_inner, InnerReads, BelowReads, RoundReads, HeadReads, OptionalReads}
 use Rattle.js_laws.proofs.Ends.{over_below, do_ends}
 use Rattle.js_laws.proofs.Statements.{take_open}
 use Rattle.js_laws.proofs.Declarations.{name_due, declaring, loop_declares}

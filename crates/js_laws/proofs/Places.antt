@@ -13,10 +13,10 @@ use Rattle.js_grammar.specs.Grammar.{Viable, IsPlace}
 use Rattle.js_reading.specs.Reading.{end_of, goes, reads}
 use Rattle.js_laws.specs.Reaching.{Reaches}
 use Rattle.js_laws.proofs.Left.{Left}
-use Rattle.js_laws.proofs.Climb.{some_is}
+use Rattle.js_laws.proofs.ThroughFrames.{some_is}
 use Rattle.js_laws.proofs.Sound.{left_spelt, step_back}
-use Rattle.js_laws.proofs.Fit.{Fits, fits_on, start_fits}
-use Rattle.js_laws.proofs.Enough.{viable}
+use Rattle.js_laws.proofs.FittingStacks.{Fits, fits_on, start_fits}
+use Rattle.js_laws.proofs.Closings.{viable}
 
 abbrev Any : ℕ → Type 0
 Any n = Unit {0}

@@ -33,7 +33,7 @@ use Rattle.js_reading.specs.Frames.{depth}
 use Rattle.js_reading.specs.Operands.{at, reached, wants, value_of, tail_of, target_of, first_of, suffixes_of, wrapped, is_literal, want_brace, want}
 use Rattle.js_reading.specs.Reading.{operand_on}
 use Rattle.js_laws.proofs.Steps.{Leads, stays, ◌⟫◌, take, ending_at}
-use Rattle.js_laws.proofs.Motives.{Stands, is_body, Free, loose, ends_loose, on_loose, is_static, Alone, ReadsFirst, AssignReads, CallReads, FirstReads, TargetReads, AccessReads, SuffixesReads, Lister, of_call, of_new, of_array, bracket_of, mark_of, list_start, listed, ArgumentsReads, MemberReads, MembersReads, from_start}
+use Rattle.js_laws.proofs.ReadParts.{Stands, is_body, Free, loose, ends_loose, on_loose, is_static, Alone, ReadsFirst, AssignReads, CallReads, FirstReads, TargetReads, AccessReads, SuffixesReads, Lister, of_call, of_new, of_array, bracket_of, mark_of, list_start, listed, ArgumentsReads, MemberReads, MembersReads, from_start}
 
 -- ---- one token
 

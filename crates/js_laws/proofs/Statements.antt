@@ -33,7 +33,7 @@ use Rattle.js_reading.specs.Statements.{arm, over, jump_in_loop, inner_word, inn
 use Rattle.js_reading.specs.Reading.{operand_on, below_by, nesting}
 use Rattle.std.proofs.Common.{length-append}
 use Rattle.js_laws.proofs.Steps.{Leads, stays, ◌⟫◌, take, ending_at, alike}
-use Rattle.js_laws.proofs.Motives.{part_stands, ends_loose, on_loose, AssignReads, BodyReads, StmtsReads, StmtReads, Opens, begins_inner, InnerReads, is_else_below, BelowReads, begins_if, IfReads, RoundReads}
+use Rattle.js_laws.proofs.ReadParts.{part_stands, ends_loose, on_loose, AssignReads, BodyReads, StmtsReads, StmtReads, Opens, begins_inner, InnerReads, is_else_below, BelowReads, begins_if, IfReads, RoundReads}
 use Rattle.js_laws.proofs.Assigns.{names_read}
 use Rattle.js_laws.proofs.Ends.{not_flip, over_list, over_below, end_grip, starts_at, part_ends, jump_ends, return_ends}
 

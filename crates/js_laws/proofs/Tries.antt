@@ -19,7 +19,7 @@ use Rattle.js_reading.specs.declared.mode.Parser.{Parser}
 use Rattle.js_reading.specs.Operands.{at, word_of}
 use Rattle.js_reading.specs.Statements.{over, after, caught_by}
 use Rattle.js_laws.proofs.Steps.{Leads, ◌⟫◌, take, alike}
-use Rattle.js_laws.proofs.Motives.{Stands, BodyReads, Opens, begins_inner, InnerReads, CatchReads, FinallyReads, OptionalFinallyReads}
+use Rattle.js_laws.proofs.ReadParts.{Stands, BodyReads, Opens, begins_inner, InnerReads, CatchReads, FinallyReads, OptionalFinallyReads}
 use Rattle.js_laws.proofs.Ends.{no_after}
 use Rattle.js_laws.proofs.Statements.{take_open}
 

@@ -1,10 +1,10 @@
 //! What is around the part of the script that is being read.
 
-use crate::pile::Pile;
 use js_ast::{
     Arm, BinaryOp, Catch, DeclarationKind, Declarator, Expr, Identifier, Key, Link, LogicalOp,
     LoopHead, Member, StepOp, Stmt, Suffix, Target, UnaryOp,
 };
+use pile::Pile;
 use sqlite_items::{Boxed, Items};
 
 /// What stands to the left of an expression and ends where that ends.

@@ -3,7 +3,6 @@
 
 mod frame;
 mod mode;
-mod pile;
 
 pub use frame::{Below, Braces, Bracket, Closed, Declaring, Frame, Over, Part, Pending, Place};
 pub use mode::{Ending, Header, Heading, Mode, Opening, Operand, Parser, Piece, Trying};

@@ -1,8 +1,8 @@
 //! What the parser has just read.
 
 use crate::frame::{Braces, Declaring, Frame};
-use crate::pile::Pile;
 use js_ast::{Access, Catch, Expr, Identifier, Key, Member, Stmt, Suffix};
+use pile::Pile;
 use sqlite_items::{Boxed, Items};
 
 /// An operand, and what it may still turn out to be.

@@ -4,7 +4,7 @@ use js_units::Units;
 use sqlite_items::Items;
 
 /// The value of one input.
-#[derive(Debug, Drop)]
+#[derive(Drop)]
 pub enum InputValue {
     Int(i64),
     Text(Units),
@@ -17,7 +17,7 @@ pub struct Input {
 }
 
 /// The kinds of events whose outcome is a number.
-#[derive(Clone, Copy, Debug, PartialEq, Eq)]
+#[derive(Clone, Copy, PartialEq, Eq)]
 pub enum PickKind {
     /// The test of a branch: 1 where it is truthy, 0 where it isn't.
     Branch,
@@ -38,7 +38,7 @@ pub enum PickKind {
 }
 
 /// One choice that a run made. A site is a byte offset into the script.
-#[derive(Debug, Drop)]
+#[derive(Drop)]
 pub enum Event {
     /// The outcome `out` of so many ways.
     Pick {
@@ -55,7 +55,7 @@ pub enum Event {
 }
 
 /// The errors of the language that the profile has.
-#[derive(Clone, Copy, Debug, PartialEq, Eq)]
+#[derive(Clone, Copy, PartialEq, Eq)]
 pub enum ErrorName {
     Error,
     TypeError,
@@ -64,7 +64,7 @@ pub enum ErrorName {
 }
 
 /// What was thrown and not caught.
-#[derive(Clone, Copy, Debug, PartialEq, Eq)]
+#[derive(Clone, Copy, PartialEq, Eq)]
 pub enum Thrown {
     /// A value that is no error.
     Value,
@@ -72,7 +72,7 @@ pub enum Thrown {
 }
 
 /// Why a run left the profile.
-#[derive(Clone, Copy, Debug, PartialEq, Eq)]
+#[derive(Clone, Copy, PartialEq, Eq)]
 pub enum Why {
     /// A result beyond the safe integers.
     Range,
@@ -105,7 +105,7 @@ pub enum Why {
 }
 
 /// What a run may use up.
-#[derive(Clone, Copy, Debug, PartialEq, Eq)]
+#[derive(Clone, Copy, PartialEq, Eq)]
 pub enum Budget {
     Turns,
     Events,
@@ -113,7 +113,7 @@ pub enum Budget {
 }
 
 /// How a run ended.
-#[derive(Clone, Copy, Debug, PartialEq, Eq)]
+#[derive(Clone, Copy, PartialEq, Eq)]
 pub enum End {
     /// At the end of the script.
     Done,
@@ -138,7 +138,7 @@ pub enum End {
 }
 
 /// The events of a run in their order, and its end.
-#[derive(Debug, Drop)]
+#[derive(Drop)]
 pub struct Path {
     pub events: Items<Event>,
     pub end: End,

@@ -2,4 +2,3 @@ pub mod Waiting
 pub mod Repeating
 pub mod Runs
 pub mod Starts
-pub mod Cutting

@@ -6,7 +6,6 @@ mod frames;
 mod lookups;
 mod machine;
 mod nodes;
-mod pile;
 mod search;
 mod steps;
 mod turns;

@@ -7,7 +7,7 @@ ghost use Rattle.re_matcher.specs.Pending.{state, IsSound, Cuts, item_ends, ends
 ghost use Rattle.re_matcher.specs.declared.frames.Choice.TheVariants.{Try};
 
 use crate::frames::{Choice, Frame, Item, Spot};
-use crate::pile::Pile;
+use pile::Pile;
 use re_ast::Flags;
 use smallvec::SmallVec;
 use std::alloc::{AllocError, Global};

@@ -10,7 +10,6 @@ mod kinds;
 mod laws;
 mod parser;
 mod pieces;
-mod pile;
 mod quantifiers;
 mod reader;
 mod refusal;

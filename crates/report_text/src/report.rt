@@ -12,7 +12,7 @@ use sqlite_items::Items;
 use std::alloc::Global;
 
 /// What a report says in one of its lines.
-#[derive(Debug, Drop)]
+#[derive(Drop)]
 pub enum Line {
     /// An input, by its names, and its path.
     Path {
@@ -22,7 +22,7 @@ pub enum Line {
 }
 
 /// The lines of a report, and whether every input takes a printed path.
-#[derive(Debug, Drop)]
+#[derive(Drop)]
 pub struct Report {
     pub lines: Items<Line>,
     pub complete: bool,

@@ -4,7 +4,7 @@ use js_units::Units;
 use sqlite_items::{Boxed, Items};
 
 /// One side of a comparison.
-#[derive(Debug, Drop)]
+#[derive(Drop)]
 pub enum Side {
     /// A name, at its own site.
     Name { site: u32, name: Units },
@@ -13,7 +13,7 @@ pub enum Side {
 }
 
 /// The operators that compare (ECMA-262, sections 13.10 and 13.11).
-#[derive(Clone, Copy, Debug, PartialEq, Eq)]
+#[derive(Clone, Copy, PartialEq, Eq)]
 pub enum Comparison {
     Less,
     Greater,
@@ -26,7 +26,7 @@ pub enum Comparison {
 }
 
 /// A comparison of two sides, at the site of its mark.
-#[derive(Debug, Drop)]
+#[derive(Drop)]
 pub struct Test {
     pub site: u32,
     pub comparison: Comparison,
@@ -35,7 +35,7 @@ pub struct Test {
 }
 
 /// A statement, at the site of its first token (ECMA-262, sections 14.2, 14.4 and 14.6).
-#[derive(Debug, Drop)]
+#[derive(Drop)]
 pub enum Stmt {
     /// `{` statements `}`
     Block {
@@ -56,7 +56,7 @@ pub enum Stmt {
 }
 
 /// A whole script.
-#[derive(Debug, Drop)]
+#[derive(Drop)]
 pub struct Script {
     pub body: Items<Stmt>,
 }

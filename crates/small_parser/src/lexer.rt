@@ -9,7 +9,7 @@ use js_units::NoMemory;
 use std::alloc::Global;
 
 /// The tokens up to the end, or up to the offset of the first byte at which no token stands.
-#[derive(Debug, Drop)]
+#[derive(Drop)]
 pub struct Lexed {
     pub tokens: Vec<Token>,
     pub stopped: Option<usize>,

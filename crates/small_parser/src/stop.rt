@@ -7,7 +7,7 @@ use js_units::NoMemory;
 use std::alloc::{AllocError, AllocFailed};
 
 /// Why tokens aren't read on.
-#[derive(Clone, Copy, Debug, PartialEq, Eq)]
+#[derive(Clone, Copy, PartialEq, Eq)]
 pub enum Stop {
     /// Reading can't go on where so many tokens are left.
     Refused { left: usize },

@@ -3,7 +3,7 @@
 use small_ast::Comparison;
 
 /// What a token is.
-#[derive(Clone, Copy, Debug, PartialEq, Eq)]
+#[derive(Clone, Copy, PartialEq, Eq)]
 pub enum TokenKind {
     Open,
     Close,
@@ -20,7 +20,7 @@ pub enum TokenKind {
 }
 
 /// A token, and the byte offset at which it starts.
-#[derive(Clone, Copy, Debug, PartialEq, Eq)]
+#[derive(Clone, Copy, PartialEq, Eq)]
 pub struct Token {
     pub kind: TokenKind,
     pub start: u32,

@@ -1,6 +1,6 @@
 use Rattle.std.proofs.Common.{◌∙◌, ◌-◌, ap, reverse, drop, length}
-use Rattle.re_matcher.proofs.Cutting.{reverse_take}
-use Rattle.re_matcher.proofs.pile.Pile.cut.Goals as goal
+use Rattle.pile.proofs.Cutting.{reverse_take}
+use Rattle.pile.proofs.Pile.cut.Goals as goal
 
 pub returns : goal.returns
 returns g c = ap reverse c.truncate.ensures.items ∙ reverse_take c.args.count _ ∙ ap (λ v. drop (length v - c.args.count) v) c.self.view_is

@@ -64,10 +64,10 @@ use Rattle.js_reading.specs.Frames.{context, join, within_braces}
 use Rattle.js_reading.specs.Operands.{value_of, first_of, suffixes_of}
 use Rattle.js_reading.specs.Statements.{arm, with_declarator}
 use Rattle.js_laws.proofs.Left.{rank_chain, rank_whole, above, above_last, deep, tok, Fits as FitNames, lead, Closing, ElseIn, AfterThen, LoopIn, UpdateIn, TestIn, DeclaredIn, TriedIn, CaughtIn, ClosedIn, ListIn, BracesIn, ArrowIn, Holds, Overs, LeftWant, LeftCall, LeftOperand, LeftPiece, Headed, LeftHeading, ForHead, LeftOpening, LeftEnding, LeftTrying, LeftStatement, LeftBelow, left_in, Left}
-use Rattle.js_laws.proofs.Climb.{lift, up_unary, joins}
+use Rattle.js_laws.proofs.ThroughFrames.{lift, up_unary, joins}
 use Rattle.js_laws.proofs.BackOperators.{fronted, not_static, access_more}
 use Rattle.js_laws.proofs.BackOperands.{starts_fine, primary_wanted}
-use Rattle.js_laws.proofs.Fit.{Sort, operands, expressions, statements, sort_in, Good, sort_operand, sort_header, fits_statement, fits_below, fits_heading, fits_opening, fits_in, Fits}
+use Rattle.js_laws.proofs.FittingStacks.{Sort, operands, expressions, statements, sort_in, Good, sort_operand, sort_header, fits_statement, fits_below, fits_heading, fits_opening, fits_in, Fits}
 
 abbrev pub Leading : (List Stmt → List Token → Type 0) → Type 0
 Leading K = (tree : List Stmt) × (ts : List Token) × K tree ts

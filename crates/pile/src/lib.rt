@@ -1,6 +1,7 @@
-//! A stack.
+//! A stack, as the parsers and the matcher keep one in place of recursion.
+#![tactic(auto)]
 
-ghost use Rattle.std.specs.Prelude.{◌≡◌, List, [], ◌∷◌, length, reverse, MatchOption, OnOk};
+ghost use Rattle.std.specs.Prelude.{◌≡◌, ◌<◌, ◌-◌, List, [], ◌∷◌, length, reverse, drop, slice_get, MatchOption, OnOk};
 
 use std::alloc::{AllocError, Global};
 use std::marker::Model;
@@ -60,5 +61,22 @@ impl<T: Drop> Pile<T> {
     {
         self.items.push(item)?;
         Ok(())
+    }
+}
+
+impl<T: Copy> Pile<T> {
+    /// Keeps the lowest `count` items.
+    pub fn cut(&mut self, count: usize)
+        ensures { self.new ≡ drop (length self.old - count) self.old }
+    {
+        self.items.truncate(count);
+    }
+
+    /// The item with `below` items under it.
+    pub fn at(&self, below: usize) -> T
+        requires { below < length self.now }
+        ensures { slice_get (reverse self.now) below ≡ Some result }
+    {
+        self.items[below]
     }
 }

@@ -57,7 +57,7 @@ use Rattle.js_reading.specs.Frames.{◌>>=◌, when, context, tightness, begin_o
 use Rattle.js_reading.specs.Operands.{at, word_of, reached, wants, value_of, tail_of, target_of, parameter_of, wrapped, is_literal, prefixed, want_binary, primary, want_word, want_brace, want_close_in, want_close, want_square, no_test, no_update, want_mark, want, settled, closed, opens_binary, place_binary, goes_on, goes_inside, level_of, opens_logical, place_logical, to_arrow, on_arrow, on_step, close_round_in, close_square_in, is_alone, on_colon_in, comma_in, comma_round, key_on, name_key_on, other_key_on, new_on, new_name_on, property_on, function_on, piece_on, headed, open_on, parameters_on, parameter_on, arrow_due_on}
 use Rattle.js_reading.specs.Statements.{joined, waits, settle, with_declarator, declared, declares_more, is_statement, is_let, of_part, over_of, over, declaration_over, close_list, express, loop_word, inner_word, inner, item_word, close_braces, item, next_item, on_else, on_while, after_by, after, semicolon_part, close_round_part, comma_part, test_on, for_on, for_first, for_word, for_head_on, declare_on, bare, goes_of, ends_bare, named_ends, named_on, function_name_on, opening_on, do_on, jump_on, return_on, ending_on, braces_on, tried_word, catch_head_on, catch_open_on, catch_name_on, caught_by, trying_on}
 use Rattle.js_reading.specs.Reading.{continues_by, ends_before, close_round_of, on_close_round, comma_of, on_comma, semicolon_of, close_brace_of, step_mark, ends_by, operand_on, heading_on, below_by, step_in, step, start}
-use Rattle.js_laws.proofs.Climb.{some_is, bind_some}
+use Rattle.js_laws.proofs.ThroughFrames.{some_is, bind_some}
 
 -- what is under way behind the frames: an operand, an expression that is no target of `++` or `--` before it, a statement
 pub data Sort : Type 0 where

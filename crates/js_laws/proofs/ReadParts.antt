@@ -50,7 +50,7 @@ use Rattle.js_reading.specs.Operands.{at, reached, wants, value_of, tail_of, tar
 use Rattle.js_reading.specs.Statements.{is_statement, over, close_list, test_due, inner, close_round_part}
 use Rattle.js_reading.specs.Reading.{ends_by, operand_on, step_in, step as turn, nesting}
 use Rattle.js_laws.proofs.Steps.{Leads, ending_at}
-use Rattle.js_laws.proofs.Settle.{grip_by, grip, grip_at, room}
+use Rattle.js_laws.proofs.WaitingFrames.{grip_by, grip, grip_at, room}
 
 -- ---- where a part stands
 
