@@ -1,5 +1,5 @@
 use Rattle.std.proofs.Common.{◌+◌, ◌*◌}
-use Rattle.js_parser.proofs.tests.+print.Given as goal
+use Rattle.language_rows.proofs.scripts.+print.Given as goal
 
 abbrev pub decreases-print_expressions::access : goal.decreases-print_expressions::access
 decreases-print_expressions::access l = 8 * goal.size-print_expressions::access l + 3
