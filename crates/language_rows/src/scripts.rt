@@ -2,6 +2,7 @@ mod accepted;
 mod others;
 mod print_expressions;
 mod print_statements;
+mod printing;
 mod refused;
 
 use js_ast::Script;

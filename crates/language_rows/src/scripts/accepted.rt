@@ -1,9 +1,7 @@
 //! Scripts that are read, with their trees.
 
 use super::parsed;
-use super::print_expressions::Out;
-use super::print_statements::stmts;
-use js_units::NoMemory;
+use super::printing::printed;
 use std::alloc::Global;
 use std::test::Fail;
 
@@ -263,44 +261,30 @@ const STATEMENTS: [(&str, &str); 70] = [
 ];
 
 /// The tree of the script that the text spells, in few characters.
-fn printed(alloc: Global, text: &str) -> Result<Option<Vec<u8>>, NoMemory> {
+fn is_printed(alloc: Global, text: &str, tree: &str) -> bool {
     match parsed(alloc, text.as_bytes()) {
-        Ok(script) => {
-            let mut out = Out {
-                alloc,
-                bytes: Vec::new(alloc),
-            };
-            stmts(&mut out, &script.body)?;
-            Ok(Some(out.bytes))
-        }
-        Err(_) => Ok(None),
-    }
-}
-
-fn is_printed(alloc: Global, text: &str, tree: &str) -> Result<bool, NoMemory> {
-    match printed(alloc, text)? {
-        Some(bytes) => Ok(bytes.as_slice() == tree.as_bytes()),
-        None => Ok(false),
+        Ok(script) => printed(alloc, script.body.as_slice()).as_slice() == tree.as_bytes(),
+        Err(_) => false,
     }
 }
 
 /// The first row whose tree is another one.
-fn wrong_row(alloc: Global, table: &[(&str, &str)]) -> Result<Option<usize>, NoMemory> {
+fn wrong_row(alloc: Global, table: &[(&str, &str)]) -> Option<usize> {
     for (row, (text, tree)) in table.iter().enumerate() {
-        if !is_printed(alloc, text, tree)? {
-            return Ok(Some(row));
+        if !is_printed(alloc, text, tree) {
+            return Some(row);
         }
     }
-    Ok(None)
+    None
 }
 
 #[test]
 fn trees(rt: HostRuntime) -> Result<(), Fail> {
     let alloc = rt.alloc();
     let found = [
-        wrong_row(alloc, &OPERATORS)?,
-        wrong_row(alloc, &OPERANDS)?,
-        wrong_row(alloc, &STATEMENTS)?,
+        wrong_row(alloc, &OPERATORS),
+        wrong_row(alloc, &OPERANDS),
+        wrong_row(alloc, &STATEMENTS),
     ];
     assert_eq!(rt; found, [None; 3]);
     Ok(())

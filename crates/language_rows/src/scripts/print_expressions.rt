@@ -1,53 +1,10 @@
-//! Expressions in few characters, without their sites.
+//! Expressions in few characters.
 
-use super::print_statements::block;
+use super::printing::Printer;
 use js_ast::{
     Access, BinaryOp, Expr, Identifier, Key, LogicalOp, Member, StepOp, Suffix, Target, UnaryOp,
 };
-use js_units::{NoMemory, Units, decimal};
 use sqlite_items::{Boxed, Items};
-use std::alloc::Global;
-
-/// What has been printed.
-#[derive(Drop)]
-pub struct Out {
-    pub alloc: Global,
-    pub bytes: Vec<u8>,
-}
-
-impl Out {
-    pub fn put(&mut self, text: &str) -> Result<(), NoMemory> {
-        for byte in text.as_bytes() {
-            self.bytes.push(*byte)?;
-        }
-        Ok(())
-    }
-
-    pub fn units(&mut self, units: &Units) -> Result<(), NoMemory> {
-        for unit in units.as_slice() {
-            self.bytes.push((*unit % 128) as u8)?;
-        }
-        Ok(())
-    }
-
-    pub fn number(&mut self, value: u64) -> Result<(), NoMemory> {
-        let digits = decimal(self.alloc, (value % 9_007_199_254_740_992) as i64)?;
-        self.units(&digits)
-    }
-
-    pub fn names(&mut self, names: &Items<Identifier>) -> Result<(), NoMemory> {
-        self.put("(")?;
-        let mut first = true;
-        for name in names.as_slice() {
-            if !first {
-                self.put(" ")?;
-            }
-            first = false;
-            self.units(&name.name)?;
-        }
-        self.put(")")
-    }
-}
 
 fn binary(op: BinaryOp) -> &'static str {
     match op {
@@ -96,135 +53,137 @@ fn logical(op: LogicalOp) -> &'static str {
     }
 }
 
-#[cycle(print)]
-fn exprs(out: &mut Out, items: &Items<Boxed<Expr>>) -> Result<(), NoMemory> {
-    let mut first = true;
-    for item in items.as_slice() {
-        if !first {
-            out.put(" ")?;
-        }
-        first = false;
-        expr(out, item.get())?;
-    }
-    Ok(())
-}
-
-#[cycle(print)]
-fn access(out: &mut Out, access: &Access<Boxed<Expr>>) -> Result<(), NoMemory> {
+fn access<'a>(out: &mut Printer<'a>, access: &'a Access<Boxed<Expr>>) {
     match access {
         Access::Property { name, .. } => {
-            out.put(".")?;
-            out.units(name)
+            out.text(".");
+            out.units(name);
         }
         Access::Index { is_static, key, .. } => {
-            out.put(if *is_static { "[!" } else { "[" })?;
-            expr(out, key.get())?;
-            out.put("]")
+            out.text(if *is_static { "[!" } else { "[" });
+            out.expression(key);
+            out.text("]");
         }
     }
 }
 
-#[cycle(print)]
-fn suffixes(out: &mut Out, suffixes: &Items<Suffix<Boxed<Expr>>>) -> Result<(), NoMemory> {
+fn arguments<'a>(out: &mut Printer<'a>, items: &'a Items<Boxed<Expr>>) {
+    out.text("(");
+    out.expressions(items);
+    out.text(")");
+}
+
+fn suffixes<'a>(out: &mut Printer<'a>, suffixes: &'a Items<Suffix<Boxed<Expr>>>) {
     for suffix in suffixes.as_slice() {
         match suffix {
-            Suffix::Access(last) => access(out, last)?,
-            Suffix::Call { arguments, .. } => {
-                out.put("(")?;
-                exprs(out, arguments)?;
-                out.put(")")?;
-            }
+            Suffix::Access(last) => access(out, last),
+            Suffix::Call {
+                arguments: items,
+                ..
+            } => arguments(out, items),
         }
     }
-    Ok(())
 }
 
-#[cycle(print)]
-fn target(out: &mut Out, target: &Target<Boxed<Expr>>) -> Result<(), NoMemory> {
+fn target<'a>(out: &mut Printer<'a>, target: &'a Target<Boxed<Expr>>) {
     match target {
         Target::Name(name) => out.units(&name.name),
         Target::Access { base, access: last } => {
-            out.put("<")?;
-            expr(out, base.get())?;
-            access(out, last)?;
-            out.put(">")
+            out.text("<");
+            out.expression(base);
+            access(out, last);
+            out.text(">");
         }
     }
 }
 
-#[cycle(print)]
-fn member(out: &mut Out, member: &Member<Boxed<Expr>>) -> Result<(), NoMemory> {
+fn member<'a>(out: &mut Printer<'a>, member: &'a Member<Boxed<Expr>>) {
     match member {
         Member::Value { key, value, .. } => {
             match key {
-                Key::Text(text) => out.units(text)?,
+                Key::Text(text) => out.units(text),
                 Key::Number(number) => {
-                    out.put("#")?;
-                    out.number(*number)?;
+                    out.text("#");
+                    out.number(*number);
                 }
             }
-            out.put(":")?;
-            expr(out, value.get())
+            out.text(":");
+            out.expression(value);
         }
         Member::Shorthand(name) => out.units(&name.name),
     }
 }
 
-#[cycle(print)]
-fn members(out: &mut Out, members: &Items<Member<Boxed<Expr>>>) -> Result<(), NoMemory> {
-    out.put("{")?;
-    let mut first = true;
+fn members<'a>(out: &mut Printer<'a>, members: &'a Items<Member<Boxed<Expr>>>) {
+    out.text("{");
+    let mut before = "";
     for one in members.as_slice() {
-        if !first {
-            out.put(" ")?;
-        }
-        first = false;
-        member(out, one)?;
+        out.text(before);
+        member(out, one);
+        before = " ";
     }
-    out.put("}")
+    out.text("}");
 }
 
-#[cycle(print)]
-fn operators(out: &mut Out, value: &Expr) -> Result<(), NoMemory> {
-    out.put("(")?;
+fn stepped<'a>(out: &mut Printer<'a>, op: StepOp, is_prefix: bool, of: &'a Target<Boxed<Expr>>) {
+    if is_prefix {
+        out.text(step(op));
+        out.text(" ");
+        target(out, of);
+    } else {
+        target(out, of);
+        out.text(" ");
+        out.text(step(op));
+    }
+}
+
+fn marked<'a>(out: &mut Printer<'a>, mark: &'static str, right: &'a Boxed<Expr>) {
+    out.text(" ");
+    out.text(mark);
+    out.text(" ");
+    out.expression(right);
+}
+
+fn assigned<'a>(
+    out: &mut Printer<'a>,
+    op: Option<BinaryOp>,
+    of: &'a Target<Boxed<Expr>>,
+    value: &'a Boxed<Expr>,
+) {
+    target(out, of);
+    out.text(" ");
+    match op {
+        Some(op) => out.text(binary(op)),
+        None => {}
+    }
+    out.text("= ");
+    out.expression(value);
+}
+
+fn operators<'a>(out: &mut Printer<'a>, value: &'a Expr) {
+    out.text("(");
     match value {
         Expr::Unary { op, operand, .. } => {
-            out.put(unary(*op))?;
-            out.put(" ")?;
-            expr(out, operand.get())?;
+            out.text(unary(*op));
+            out.text(" ");
+            out.expression(operand);
         }
         Expr::Step {
             op,
             is_prefix,
             target: of,
             ..
-        } => {
-            if *is_prefix {
-                out.put(step(*op))?;
-                out.put(" ")?;
-                target(out, of)?;
-            } else {
-                target(out, of)?;
-                out.put(" ")?;
-                out.put(step(*op))?;
-            }
-        }
+        } => stepped(out, *op, *is_prefix, of),
         Expr::Binary { first, links } => {
-            expr(out, first.get())?;
+            out.expression(first);
             for link in links.as_slice() {
-                out.put(" ")?;
-                out.put(binary(link.op))?;
-                out.put(" ")?;
-                expr(out, link.right.get())?;
+                marked(out, binary(link.op), &link.right);
             }
         }
         Expr::Logical { first, links } => {
-            expr(out, first.get())?;
+            out.expression(first);
             for link in links.as_slice() {
-                out.put(" ")?;
-                out.put(logical(link.op))?;
-                out.put(" ")?;
-                expr(out, link.right.get())?;
+                marked(out, logical(link.op), &link.right);
             }
         }
         Expr::Conditional {
@@ -233,33 +192,32 @@ fn operators(out: &mut Out, value: &Expr) -> Result<(), NoMemory> {
             alternate,
             ..
         } => {
-            expr(out, test.get())?;
-            out.put(" ? ")?;
-            expr(out, consequent.get())?;
-            out.put(" : ")?;
-            expr(out, alternate.get())?;
+            out.expression(test);
+            marked(out, "?", consequent);
+            marked(out, ":", alternate);
         }
         Expr::Assign {
             op,
             target: of,
             value,
             ..
-        } => {
-            target(out, of)?;
-            out.put(" ")?;
-            if let Some(op) = op {
-                out.put(binary(*op))?;
-            }
-            out.put("= ")?;
-            expr(out, value.get())?;
-        }
-        _ => out.put("unknown")?,
+        } => assigned(out, *op, of, value),
+        _ => out.text("unknown"),
     }
-    out.put(")")
+    out.text(")");
 }
 
-#[cycle(print)]
-fn functions(out: &mut Out, value: &Expr) -> Result<(), NoMemory> {
+fn named<'a>(out: &mut Printer<'a>, name: &'a Option<Identifier>) {
+    match name {
+        Some(name) => {
+            out.text(" ");
+            out.units(&name.name);
+        }
+        None => {}
+    }
+}
+
+fn functions<'a>(out: &mut Printer<'a>, value: &'a Expr) {
     match value {
         Expr::FunctionExpression {
             name,
@@ -267,75 +225,69 @@ fn functions(out: &mut Out, value: &Expr) -> Result<(), NoMemory> {
             body,
             ..
         } => {
-            out.put("fn")?;
-            if let Some(name) = name {
-                out.put(" ")?;
-                out.units(&name.name)?;
-            }
-            out.names(parameters)?;
-            block(out, body)
+            out.text("fn");
+            named(out, name);
+            out.names(parameters);
+            out.block(body);
         }
         Expr::Arrow {
             parameters,
             value,
             ..
         } => {
-            out.names(parameters)?;
-            out.put("=>")?;
-            expr(out, value.get())
+            out.names(parameters);
+            out.text("=>");
+            out.expression(value);
         }
         Expr::ArrowBlock {
             parameters,
             body,
             ..
         } => {
-            out.names(parameters)?;
-            out.put("=>")?;
-            block(out, body)
+            out.names(parameters);
+            out.text("=>");
+            out.block(body);
         }
         value => operators(out, value),
     }
 }
 
-#[cycle(print)]
-pub fn expr(out: &mut Out, value: &Expr) -> Result<(), NoMemory> {
+pub fn expression<'a>(out: &mut Printer<'a>, value: &'a Expr) {
     match value {
         Expr::Name(name) => out.units(&name.name),
         Expr::Number { value, .. } => out.number(*value),
         Expr::Text { value, .. } => {
-            out.put("'")?;
-            out.units(value)?;
-            out.put("'")
+            out.text("'");
+            out.units(value);
+            out.text("'");
         }
-        Expr::Null { .. } => out.put("null"),
-        Expr::True { .. } => out.put("true"),
-        Expr::False { .. } => out.put("false"),
-        Expr::This { .. } => out.put("this"),
+        Expr::Null { .. } => out.text("null"),
+        Expr::True { .. } => out.text("true"),
+        Expr::False { .. } => out.text("false"),
+        Expr::This { .. } => out.text("this"),
         Expr::Array { items, .. } => {
-            out.put("[")?;
-            exprs(out, items)?;
-            out.put("]")
+            out.text("[");
+            out.expressions(items);
+            out.text("]");
         }
         Expr::Object { members: of, .. } => members(out, of),
         Expr::New {
             name,
-            arguments,
+            arguments: items,
             ..
         } => {
-            out.put("new ")?;
-            out.units(&name.name)?;
-            out.put("(")?;
-            exprs(out, arguments)?;
-            out.put(")")
+            out.text("new ");
+            out.units(&name.name);
+            arguments(out, items);
         }
         Expr::Call {
             first,
-            suffixes: of,
+            suffixes: behind,
         } => {
-            out.put("<")?;
-            expr(out, first.get())?;
-            suffixes(out, of)?;
-            out.put(">")
+            out.text("<");
+            out.expression(first);
+            suffixes(out, behind);
+            out.text(">");
         }
         value => functions(out, value),
     }

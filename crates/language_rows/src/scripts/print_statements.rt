@@ -1,8 +1,7 @@
-//! Statements in few characters, without their sites.
+//! Statements in few characters.
 
-use super::print_expressions::{Out, expr};
-use js_ast::{Arm, Catch, DeclarationKind, Declarator, Expr, LoopHead, Stmt};
-use js_units::NoMemory;
+use super::printing::Printer;
+use js_ast::{Arm, Catch, DeclarationKind, Declarator, Expr, Identifier, LoopHead, Stmt};
 use sqlite_items::{Boxed, Items};
 
 fn kind(kind: DeclarationKind) -> &'static str {
@@ -12,83 +11,101 @@ fn kind(kind: DeclarationKind) -> &'static str {
     }
 }
 
-#[cycle(print)]
-fn declarators(
-    out: &mut Out,
+fn declarators<'a>(
+    out: &mut Printer<'a>,
     of: DeclarationKind,
-    items: &Items<Declarator<Boxed<Expr>>>,
-) -> Result<(), NoMemory> {
-    out.put(kind(of))?;
+    items: &'a Items<Declarator<Boxed<Expr>>>,
+) {
+    out.text(kind(of));
     for item in items.as_slice() {
-        out.put(" ")?;
-        out.units(&item.name.name)?;
-        if let Some(value) = &item.value {
-            out.put("=")?;
-            expr(out, value.get())?;
+        out.text(" ");
+        out.units(&item.name.name);
+        match &item.value {
+            Some(value) => {
+                out.text("=");
+                out.expression(value);
+            }
+            None => {}
         }
     }
-    Ok(())
 }
 
-#[cycle(print)]
-fn arms(out: &mut Out, items: &Items<Arm>) -> Result<(), NoMemory> {
-    let mut first = true;
+fn arms<'a>(out: &mut Printer<'a>, items: &'a Items<Arm>) {
+    let mut before = "if(";
     for arm in items.as_slice() {
-        out.put(if first { "if(" } else { " elif(" })?;
-        first = false;
-        expr(out, arm.test.get())?;
-        out.put(")")?;
-        stmt(out, arm.consequent.get())?;
+        out.text(before);
+        tested(out, &arm.test, &arm.consequent);
+        before = " elif(";
     }
-    Ok(())
 }
 
-#[cycle(print)]
-fn optional(out: &mut Out, value: &Option<Boxed<Expr>>) -> Result<(), NoMemory> {
+fn optional<'a>(out: &mut Printer<'a>, value: &'a Option<Boxed<Expr>>) {
     match value {
-        Some(value) => expr(out, value.get()),
-        None => Ok(()),
+        Some(value) => out.expression(value),
+        None => {}
     }
 }
 
-#[cycle(print)]
-fn loops(out: &mut Out, value: &Stmt) -> Result<(), NoMemory> {
+/// Behind `(`.
+fn tested<'a>(out: &mut Printer<'a>, test: &'a Boxed<Expr>, body: &'a Boxed<Stmt>) {
+    out.expression(test);
+    out.text(")");
+    out.statement(body.get());
+}
+
+fn head<'a>(out: &mut Printer<'a>, head: &'a LoopHead<Boxed<Expr>>) {
+    match head {
+        LoopHead::Nothing => {}
+        LoopHead::Value(value) => out.expression(value),
+        LoopHead::Declare {
+            kind,
+            declarators: items,
+        } => declarators(out, *kind, items),
+    }
+}
+
+fn items_of<'a>(
+    out: &mut Printer<'a>,
+    of: DeclarationKind,
+    name: &'a Identifier,
+    items: &'a Boxed<Expr>,
+    body: &'a Boxed<Stmt>,
+) {
+    out.text(kind(of));
+    out.text(" ");
+    out.units(&name.name);
+    out.text(" of ");
+    tested(out, items, body);
+}
+
+fn loops<'a>(out: &mut Printer<'a>, value: &'a Stmt) {
     match value {
         Stmt::While { test, body, .. } => {
-            out.put("while(")?;
-            expr(out, test.get())?;
-            out.put(")")?;
-            stmt(out, body.get())
+            out.text("while(");
+            tested(out, test, body);
         }
         Stmt::Do { body, test, .. } => {
-            out.put("do ")?;
-            stmt(out, body.get())?;
-            out.put(" while(")?;
-            expr(out, test.get())?;
-            out.put(")")
+            out.text("do ");
+            out.statement(body.get());
+            out.text(" while(");
+            out.expression(test);
+            out.text(")");
         }
         Stmt::For {
-            head,
+            head: first,
             test,
             update,
             body,
             ..
         } => {
-            out.put("for(")?;
-            match head {
-                LoopHead::Nothing => {}
-                LoopHead::Value(value) => expr(out, value.get())?,
-                LoopHead::Declare {
-                    kind,
-                    declarators: items,
-                } => declarators(out, *kind, items)?,
-            }
-            out.put(";")?;
-            optional(out, test)?;
-            out.put(";")?;
-            optional(out, update)?;
-            out.put(")")?;
-            stmt(out, body.get())
+            out.text("for(");
+            head(out, first);
+            out.text(";");
+            optional(out, test);
+            out.text(";");
+            optional(out, update);
+            out.text(")");
+            out.statement(body.get());
         }
         Stmt::ForOf {
             kind: of,
@@ -97,54 +114,76 @@ fn loops(out: &mut Out, value: &Stmt) -> Result<(), NoMemory> {
             body,
             ..
         } => {
-            out.put("for(")?;
-            out.put(kind(*of))?;
-            out.put(" ")?;
-            out.units(&name.name)?;
-            out.put(" of ")?;
-            expr(out, items.get())?;
-            out.put(")")?;
-            stmt(out, body.get())
+            out.text("for(");
+            items_of(out, *of, name, items, body);
         }
-        _ => out.put("unknown"),
+        _ => out.text("unknown"),
     }
 }
 
-#[cycle(print)]
-fn caught(out: &mut Out, catch: &Option<Catch<Items<Stmt>>>) -> Result<(), NoMemory> {
-    if let Some(catch) = catch {
-        out.put("catch")?;
-        if let Some(name) = &catch.name {
-            out.put("(")?;
-            out.units(&name.name)?;
-            out.put(")")?;
+fn caught<'a>(out: &mut Printer<'a>, catch: &'a Catch<Items<Stmt>>) {
+    out.text("catch");
+    match &catch.name {
+        Some(name) => {
+            out.text("(");
+            out.units(&name.name);
+            out.text(")");
         }
-        block(out, &catch.body)?;
+        None => {}
     }
-    Ok(())
+    out.block(&catch.body);
 }
 
-#[cycle(print)]
-fn last(out: &mut Out, finally: &Option<Items<Stmt>>) -> Result<(), NoMemory> {
-    if let Some(finally) = finally {
-        out.put("finally")?;
-        block(out, finally)?;
+fn tried<'a>(
+    out: &mut Printer<'a>,
+    body: &'a Items<Stmt>,
+    catch: &'a Option<Catch<Items<Stmt>>>,
+    finally: &'a Option<Items<Stmt>>,
+) {
+    out.text("try");
+    out.block(body);
+    match catch {
+        Some(catch) => caught(out, catch),
+        None => {}
     }
-    Ok(())
+    match finally {
+        Some(finally) => {
+            out.text("finally");
+            out.block(finally);
+        }
+        None => {}
+    }
 }
 
-#[cycle(print)]
-pub fn block(out: &mut Out, body: &Items<Stmt>) -> Result<(), NoMemory> {
-    out.put("{")?;
-    stmts(out, body)?;
-    out.put("}")
-}
-
-#[cycle(print)]
-pub fn stmt(out: &mut Out, value: &Stmt) -> Result<(), NoMemory> {
+fn others<'a>(out: &mut Printer<'a>, value: &'a Stmt) {
     match value {
-        Stmt::Block { body, .. } => block(out, body),
-        Stmt::Nothing { .. } => out.put(";"),
+        Stmt::If {
+            arms: items,
+            alternate,
+        } => {
+            arms(out, items);
+            match alternate {
+                Some(other) => {
+                    out.text(" else ");
+                    out.statement(other.get());
+                }
+                None => {}
+            }
+        }
+        Stmt::Try {
+            body,
+            catch,
+            finally,
+            ..
+        } => tried(out, body, catch, finally),
+        value => loops(out, value),
+    }
+}
+
+pub fn statement<'a>(out: &mut Printer<'a>, value: &'a Stmt) {
+    match value {
+        Stmt::Block { body, .. } => out.block(body),
+        Stmt::Nothing { .. } => out.text(";"),
         Stmt::Declare {
             kind,
             declarators: items,
@@ -156,57 +195,22 @@ pub fn stmt(out: &mut Out, value: &Stmt) -> Result<(), NoMemory> {
             body,
             ..
         } => {
-            out.put("function ")?;
-            out.units(&name.name)?;
-            out.names(parameters)?;
-            block(out, body)
+            out.text("function ");
+            out.units(&name.name);
+            out.names(parameters);
+            out.block(body);
         }
-        Stmt::Express { value, .. } => expr(out, value.get()),
-        Stmt::If {
-            arms: items,
-            alternate,
-        } => {
-            arms(out, items)?;
-            if let Some(other) = alternate {
-                out.put(" else ")?;
-                stmt(out, other.get())?;
-            }
-            Ok(())
-        }
-        Stmt::Break { .. } => out.put("break"),
-        Stmt::Continue { .. } => out.put("continue"),
+        Stmt::Express { value, .. } => out.expression(value),
+        Stmt::Break { .. } => out.text("break"),
+        Stmt::Continue { .. } => out.text("continue"),
         Stmt::Return { value, .. } => {
-            out.put("return ")?;
-            optional(out, value)
+            out.text("return ");
+            optional(out, value);
         }
         Stmt::Throw { value, .. } => {
-            out.put("throw ")?;
-            expr(out, value.get())
+            out.text("throw ");
+            out.expression(value);
         }
-        Stmt::Try {
-            body,
-            catch,
-            finally,
-            ..
-        } => {
-            out.put("try")?;
-            block(out, body)?;
-            caught(out, catch)?;
-            last(out, finally)
-        }
-        value => loops(out, value),
+        value => others(out, value),
     }
-}
-
-#[cycle(print)]
-pub fn stmts(out: &mut Out, body: &Items<Stmt>) -> Result<(), NoMemory> {
-    let mut first = true;
-    for one in body.as_slice() {
-        if !first {
-            out.put(" | ")?;
-        }
-        first = false;
-        stmt(out, one)?;
-    }
-    Ok(())
 }
