@@ -1,15 +1,17 @@
 //! Tokens behind statements that may be over, and between the parts of a `try`.
 
+ghost use Rattle.std.specs.Prelude.{◌≡◌, Some, None};
+ghost use Rattle.js_ast.specs.declared.statement.Stmt.TheVariants as stmt;
 ghost use Rattle.js_reading.specs.Operands.{word_of};
-ghost use Rattle.js_reading.specs.Statements.{do_on, jump_on, return_on, throw_on, ending_on, braces_on, tried_on, catch_head_on, catch_open_on, catch_name_on, caught_by, trying_on};
+ghost use Rattle.js_reading.specs.Statements.{after, do_on, jump_on, return_on, throw_on, ending_on, braces_on, tried_on, catch_head_on, catch_open_on, catch_name_on, caught_by, trying_on};
 ghost use Rattle.js_operands.specs.Answers.{Gives};
 
 use crate::openings::ends_bare;
 use js_ast::{Catch, Identifier, Stmt};
 use js_grammar::{TokenKind, Word};
-use js_operands::{Stop, opens_list, pushed, want, word_of};
+use js_operands::{Stop, opens_list, word_of};
 use js_reading::{Braces, Ending, Frame, Parser, Part, Pile, Trying};
-use js_statements::{after, braces_due, over, trying};
+use js_statements::{after, boxed, braces_due, over, trying, want_part};
 use sqlite_items::{Boxed, Items};
 use std::alloc::Global;
 
@@ -23,8 +25,11 @@ fn do_on(
     ensures { Gives (λ x. x) result (do_on stmt site frames kind) }
 {
     match kind {
-        TokenKind::Semicolon => Ok(over(stmt, frames)),
-        kind => after(alloc, site, stmt, frames, kind),
+        TokenKind::Semicolon => {
+            drop(kind);
+            Ok(over(stmt, frames))
+        }
+        _ => after(alloc, site, stmt, frames, kind),
     }
 }
 
@@ -39,14 +44,44 @@ fn jump_on(
     ensures { Gives (λ x. x) result (jump_on line stmt site frames kind) }
 {
     match kind {
-        TokenKind::Semicolon => Ok(over(stmt, frames)),
-        kind => {
+        TokenKind::Semicolon => {
+            drop(kind);
+            Ok(over(stmt, frames))
+        }
+        _ => {
             if ends_bare(line, &kind) {
                 return after(alloc, site, stmt, frames, kind);
             }
+            drop(kind);
             Err(Stop::Syntax)
         }
     }
+}
+
+/// A statement that was not in a box, and the token behind it.
+fn after_stmt(
+    alloc: Global,
+    stmt: Stmt,
+    site: u32,
+    frames: Pile<Frame>,
+    kind: TokenKind,
+) -> Result<Parser, Stop>
+    ensures { Gives (λ x. x) result (after site stmt frames kind) }
+{
+    match boxed(alloc, stmt) {
+        Ok(stmt) => after(alloc, site, stmt, frames, kind),
+        Err(stop) => {
+            drop(kind);
+            Err(stop)
+        }
+    }
+}
+
+/// A `return` with no value.
+pub fn bare_return(site: u32) -> Stmt
+    ensures { result ≡ stmt.Return site None }
+{
+    Stmt::Return { site, value: None }
 }
 
 fn return_on(
@@ -59,21 +94,16 @@ fn return_on(
 ) -> Result<Parser, Stop>
     ensures { Gives (λ x. x) result (return_on line begin site frames kind) }
 {
-    let stmt = Boxed::new(
-        alloc,
-        Stmt::Return {
-            site: begin,
-            value: None,
-        },
-    )?;
     match kind {
-        TokenKind::Semicolon => Ok(over(stmt, frames)),
-        kind => {
+        TokenKind::Semicolon => {
+            drop(kind);
+            Ok(over(boxed(alloc, bare_return(begin))?, frames))
+        }
+        _ => {
             if ends_bare(line, &kind) {
-                return after(alloc, site, stmt, frames, kind);
+                return after_stmt(alloc, bare_return(begin), site, frames, kind);
             }
-            let frames = pushed(frames, Frame::Part(Part::Return { site: begin }))?;
-            want(alloc, site, frames, kind)
+            want_part(alloc, Part::Return { site: begin }, site, frames, kind)
         }
     }
 }
@@ -89,10 +119,10 @@ fn throw_on(
     ensures { Gives (λ x. x) result (throw_on line begin site frames kind) }
 {
     if line {
+        drop(kind);
         return Err(Stop::Syntax);
     }
-    let frames = pushed(frames, Frame::Part(Part::Throw { site: begin }))?;
-    want(alloc, site, frames, kind)
+    want_part(alloc, Part::Throw { site: begin }, site, frames, kind)
 }
 
 /// A token behind a statement that may be over.
@@ -110,8 +140,14 @@ pub fn ending_on(
         Ending::Over(stmt) => after(alloc, site, stmt, frames, kind),
         Ending::Do(stmt) => do_on(alloc, stmt, site, frames, kind),
         Ending::Jump(stmt) => jump_on(alloc, line, stmt, site, frames, kind),
-        Ending::Return { site: begin } => return_on(alloc, line, begin, site, frames, kind),
-        Ending::Throw { site: begin } => throw_on(alloc, line, begin, site, frames, kind),
+        Ending::Return { site: begin } => {
+            drop(ending);
+            return_on(alloc, line, begin, site, frames, kind)
+        }
+        Ending::Throw { site: begin } => {
+            drop(ending);
+            throw_on(alloc, line, begin, site, frames, kind)
+        }
     }
 }
 
@@ -120,13 +156,16 @@ pub fn braces_on(
     alloc: Global,
     braces: Braces,
     frames: Pile<Frame>,
-    kind: TokenKind,
+    kind: &TokenKind,
 ) -> Result<Parser, Stop>
-    ensures { Gives (λ x. x) result (braces_on braces frames kind) }
+    ensures { Gives (λ x. x) result (braces_on braces frames kind.now) }
 {
     match kind {
         TokenKind::OpenBrace => opens_list(alloc, braces, frames),
-        _ => Err(Stop::Syntax),
+        _ => {
+            drop(braces);
+            Err(Stop::Syntax)
+        }
     }
 }
 
@@ -134,11 +173,11 @@ fn tried_on(
     site: u32,
     body: Items<Stmt>,
     frames: Pile<Frame>,
-    kind: TokenKind,
+    kind: &TokenKind,
 ) -> Result<Parser, Stop>
-    ensures { Gives (λ x. x) result (tried_on site body frames kind) }
+    ensures { Gives (λ x. x) result (tried_on site body frames kind.now) }
 {
-    match word_of(&kind) {
+    match word_of(kind) {
         Some(Word::Catch) => trying(Trying::CatchHead { site, body }, frames),
         Some(Word::Finally) => braces_due(
             Braces::Finally {
@@ -157,9 +196,9 @@ fn catch_head_on(
     site: u32,
     body: Items<Stmt>,
     frames: Pile<Frame>,
-    kind: TokenKind,
+    kind: &TokenKind,
 ) -> Result<Parser, Stop>
-    ensures { Gives (λ x. x) result (catch_head_on site body frames kind) }
+    ensures { Gives (λ x. x) result (catch_head_on site body frames kind.now) }
 {
     match kind {
         TokenKind::OpenRound => trying(Trying::CatchOpen { site, body }, frames),
@@ -192,7 +231,10 @@ fn catch_open_on(
             let name = Identifier { site: at, name };
             trying(Trying::CatchName { site, body, name }, frames)
         }
-        _ => Err(Stop::Syntax),
+        other => {
+            drop(other);
+            Err(Stop::Syntax)
+        }
     }
 }
 
@@ -201,9 +243,9 @@ fn catch_name_on(
     body: Items<Stmt>,
     name: Identifier,
     frames: Pile<Frame>,
-    kind: TokenKind,
+    kind: &TokenKind,
 ) -> Result<Parser, Stop>
-    ensures { Gives (λ x. x) result (catch_name_on site body name frames kind) }
+    ensures { Gives (λ x. x) result (catch_name_on site body name frames kind.now) }
 {
     match kind {
         TokenKind::CloseRound => {
@@ -220,6 +262,18 @@ fn catch_name_on(
     }
 }
 
+/// A `try` with no `finally`.
+pub fn caught(site: u32, body: Items<Stmt>, catch: Catch<Items<Stmt>>) -> Stmt
+    ensures { result ≡ stmt.Try site body (Some catch) None }
+{
+    Stmt::Try {
+        site,
+        body,
+        catch: Some(catch),
+        finally: None,
+    }
+}
+
 fn caught_on(
     alloc: Global,
     begin: u32,
@@ -233,6 +287,7 @@ fn caught_on(
 {
     match word_of(&kind) {
         Some(Word::Finally) => {
+            drop(kind);
             let catch = Some(catch);
             braces_due(
                 Braces::Finally {
@@ -243,16 +298,7 @@ fn caught_on(
                 frames,
             )
         }
-        _ => {
-            let stmt = Stmt::Try {
-                site: begin,
-                body,
-                catch: Some(catch),
-                finally: None,
-            };
-            let stmt = Boxed::new(alloc, stmt)?;
-            after(alloc, site, stmt, frames, kind)
-        }
+        _ => after_stmt(alloc, caught(begin, body, catch), site, frames, kind),
     }
 }
 
@@ -267,10 +313,22 @@ pub fn trying_on(
     ensures { Gives (λ x. x) result (trying_on trying at frames kind) }
 {
     match trying {
-        Trying::Tried { site, body } => tried_on(site, body, frames, kind),
-        Trying::CatchHead { site, body } => catch_head_on(alloc, site, body, frames, kind),
+        Trying::Tried { site, body } => {
+            let parser = tried_on(site, body, frames, &kind);
+            drop(kind);
+            parser
+        }
+        Trying::CatchHead { site, body } => {
+            let parser = catch_head_on(alloc, site, body, frames, &kind);
+            drop(kind);
+            parser
+        }
         Trying::CatchOpen { site, body } => catch_open_on(site, body, at, frames, kind),
-        Trying::CatchName { site, body, name } => catch_name_on(site, body, name, frames, kind),
+        Trying::CatchName { site, body, name } => {
+            let parser = catch_name_on(site, body, name, frames, &kind);
+            drop(kind);
+            parser
+        }
         Trying::Caught { site, body, catch } => {
             caught_on(alloc, site, body, catch, at, frames, kind)
         }

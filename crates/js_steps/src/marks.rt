@@ -19,7 +19,10 @@ fn close_round_of(alloc: Global, value: Boxed<Expr>, frames: Pile<Frame>) -> Res
     match frames.pop() {
         Some(Frame::Bracket(bracket)) => close_round_in(alloc, value, bracket, frames),
         Some(Frame::Part(part)) => close_round_part(alloc, value, part, frames),
-        _ => Err(Stop::Syntax),
+        other => {
+            drop(other);
+            Err(Stop::Syntax)
+        }
     }
 }
 
@@ -34,7 +37,7 @@ pub fn on_close_round(
 {
     if let Some(site) = round_of(&frames) {
         let mut frames = frames;
-        frames.pop();
+        drop(frames.pop());
         return Ok(reached(site, wrapped(alloc, operand)?, frames));
     }
     let closed = whole(alloc, start, operand, frames)?;
@@ -48,7 +51,10 @@ fn comma_of(alloc: Global, value: Boxed<Expr>, frames: Pile<Frame>) -> Result<Pa
     match frames.pop() {
         Some(Frame::Bracket(bracket)) => comma_in(alloc, value, bracket, frames),
         Some(Frame::Part(part)) => comma_part(alloc, value, part, frames),
-        _ => Err(Stop::Syntax),
+        other => {
+            drop(other);
+            Err(Stop::Syntax)
+        }
     }
 }
 
@@ -63,7 +69,7 @@ pub fn on_comma(
 {
     if let Some(site) = round_of(&frames) {
         let mut frames = frames;
-        frames.pop();
+        drop(frames.pop());
         return comma_round(alloc, site, operand, frames);
     }
     let closed = whole(alloc, start, operand, frames)?;

@@ -1,21 +1,23 @@
 //! Tokens behind the beginnings and the ends of statements.
 
 ghost use Rattle.std.specs.Prelude.{◌≡◌};
+ghost use Rattle.js_grammar.specs.declared.token.TokenKind.TheVariants as k;
 ghost use Rattle.js_reading.specs.Statements.{test_on, for_on, for_first, for_word, for_head_on, declare_on, named_semicolon, named_comma, goes_of, ends_bare, named_ends, named_on, function_name_on, opening_on};
 ghost use Rattle.js_operands.specs.Answers.{Gives, Makes};
 
 use js_ast::{DeclarationKind, Identifier, LoopHead};
 use js_grammar::{TokenKind, Word};
-use js_operands::{Stop, heading, is_of, pushed, want, want_word, wants};
+use js_operands::{Stop, heading, is_of, pushed, want_word, wants};
 use js_reading::{Declaring, Frame, Header, Heading, Mode, Opening, Parser, Part, Pile, Place};
 use js_statements::{
     after, bare, declaration, declaration_over, declares_more, is_let, is_statement, opening,
+    want_part,
 };
 use js_units::Units;
 use std::alloc::Global;
 
-fn test_on(frames: Pile<Frame>, kind: TokenKind) -> Result<Parser, Stop>
-    ensures { Gives (λ x. x) result (test_on frames kind) }
+fn test_on(frames: Pile<Frame>, kind: &TokenKind) -> Result<Parser, Stop>
+    ensures { Gives (λ x. x) result (test_on frames kind.now) }
 {
     match kind {
         TokenKind::OpenRound => Ok(Parser {
@@ -26,8 +28,8 @@ fn test_on(frames: Pile<Frame>, kind: TokenKind) -> Result<Parser, Stop>
     }
 }
 
-fn for_on(site: u32, frames: Pile<Frame>, kind: TokenKind) -> Result<Parser, Stop>
-    ensures { Gives (λ x. x) result (for_on site frames kind) }
+fn for_on(site: u32, frames: Pile<Frame>, kind: &TokenKind) -> Result<Parser, Stop>
+    ensures { Gives (λ x. x) result (for_on site frames kind.now) }
 {
     match kind {
         TokenKind::OpenRound => opening(Opening::ForHead { site }, frames),
@@ -69,11 +71,15 @@ fn for_head_on(
 {
     match kind {
         TokenKind::Semicolon => {
+            drop(kind);
             let head = LoopHead::Nothing;
             wants(Frame::Part(Part::ForTest { site, head }), frames)
         }
-        TokenKind::Word { word, .. } => for_word(alloc, word, site, at, frames),
-        kind => want(alloc, at, for_first(site, frames)?, kind),
+        TokenKind::Word { word, .. } => {
+            drop(kind);
+            for_word(alloc, word, site, at, frames)
+        }
+        _ => want_part(alloc, Part::ForFirst { site }, at, frames, kind),
     }
 }
 
@@ -93,7 +99,10 @@ fn declare_on(
             let name = Identifier { site: at, name };
             opening(Opening::Named { declaring, name }, frames)
         }
-        _ => Err(Stop::Syntax),
+        other => {
+            drop(other);
+            Err(Stop::Syntax)
+        }
     }
 }
 
@@ -149,10 +158,47 @@ fn named_ends(
     ensures { Gives (λ x. x) result (named_ends line declaring name site frames kind) }
 {
     if is_statement(declaring.place) && is_let(declaring.kind) && ends_bare(line, &kind) {
-        let stmt = bare(alloc, declaring, name)?;
-        return after(alloc, site, stmt, frames, kind);
+        return match bare(alloc, declaring, name) {
+            Ok(stmt) => after(alloc, site, stmt, frames, kind),
+            Err(stop) => {
+                drop(kind);
+                Err(stop)
+            }
+        };
     }
+    drop(kind);
     Err(Stop::Syntax)
+}
+
+/// A name behind a declared name.
+fn named_word(
+    alloc: Global,
+    line: bool,
+    declaring: Declaring,
+    name: Identifier,
+    site: u32,
+    frames: Pile<Frame>,
+    word: Units,
+) -> Result<Parser, Stop>
+    ensures { Gives (λ x. x) result (named_on line declaring name site frames (k.Name word)) }
+{
+    if goes_of(&declaring, &word) {
+        let Declaring {
+            site: begin,
+            kind,
+            ..
+        } = declaring;
+        return wants(
+            Frame::Part(Part::ForOf {
+                site: begin,
+                kind,
+                name,
+            }),
+            frames,
+        );
+    }
+    let kind = TokenKind::Name(word);
+    named_ends(alloc, line, declaring, name, site, frames, kind)
 }
 
 /// A token behind a declared name.
@@ -168,28 +214,19 @@ fn named_on(
     ensures { Gives (λ x. x) result (named_on line declaring name site frames kind) }
 {
     match kind {
-        TokenKind::Assign(None) => { wants(Frame::Part(Part::Declare { declaring, name }), frames) }
-        TokenKind::Comma => named_comma(declaring, name, frames),
-        TokenKind::Semicolon => named_semicolon(alloc, declaring, name, frames),
-        TokenKind::Name(word) => {
-            if goes_of(&declaring, &word) {
-                let Declaring {
-                    site: begin,
-                    kind,
-                    ..
-                } = declaring;
-                return wants(
-                    Frame::Part(Part::ForOf {
-                        site: begin,
-                        kind,
-                        name,
-                    }),
-                    frames,
-                );
-            }
-            let kind = TokenKind::Name(word);
-            named_ends(alloc, line, declaring, name, site, frames, kind)
+        TokenKind::Assign(None) => {
+            drop(kind);
+            wants(Frame::Part(Part::Declare { declaring, name }), frames)
         }
+        TokenKind::Comma => {
+            drop(kind);
+            named_comma(declaring, name, frames)
+        }
+        TokenKind::Semicolon => {
+            drop(kind);
+            named_semicolon(alloc, declaring, name, frames)
+        }
+        TokenKind::Name(word) => named_word(alloc, line, declaring, name, site, frames, word),
         kind => named_ends(alloc, line, declaring, name, site, frames, kind),
     }
 }
@@ -207,7 +244,10 @@ fn function_name_on(
             let name = Identifier { site: at, name };
             heading(Heading::Open(Header::Function { site, name }), frames)
         }
-        _ => Err(Stop::Syntax),
+        other => {
+            drop(other);
+            Err(Stop::Syntax)
+        }
     }
 }
 
@@ -223,13 +263,29 @@ pub fn opening_on(
     ensures { Gives (λ x. x) result (opening_on line opening at frames kind) }
 {
     match opening {
-        Opening::Test => test_on(frames, kind),
-        Opening::For { site } => for_on(site, frames, kind),
-        Opening::ForHead { site } => for_head_on(alloc, site, at, frames, kind),
+        Opening::Test => {
+            drop(opening);
+            let parser = test_on(frames, &kind);
+            drop(kind);
+            parser
+        }
+        Opening::For { site } => {
+            drop(opening);
+            let parser = for_on(site, frames, &kind);
+            drop(kind);
+            parser
+        }
+        Opening::ForHead { site } => {
+            drop(opening);
+            for_head_on(alloc, site, at, frames, kind)
+        }
         Opening::Declare(declaring) => declare_on(declaring, at, frames, kind),
         Opening::Named { declaring, name } => {
             named_on(alloc, line, declaring, name, at, frames, kind)
         }
-        Opening::Function { site } => function_name_on(site, at, frames, kind),
+        Opening::Function { site } => {
+            drop(opening);
+            function_name_on(site, at, frames, kind)
+        }
     }
 }

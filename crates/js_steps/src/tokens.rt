@@ -6,7 +6,7 @@ ghost use Rattle.js_reading.specs.declared.frame.Frame.TheVariants as frame;
 ghost use Rattle.js_reading.specs.declared.frame.Braces.TheVariants as braces;
 ghost use Rattle.js_operands.specs.Answers.{Gives};
 
-use crate::endings::{braces_on, ending_on, trying_on};
+use crate::endings::{bare_return, braces_on, caught, ending_on, trying_on};
 use crate::marks::{on_close_round, on_comma};
 use crate::openings::opening_on;
 use js_ast::{Expr, Member, StepOp, Stmt};
@@ -15,13 +15,13 @@ use js_brackets::{
     piece_on, with_member,
 };
 use js_grammar::{Token, TokenKind};
-use js_operands::{Stop, continues, want};
+use js_operands::{Stop, continues, pushed, want};
 use js_operators::{continued, on_arrow, on_step, whole};
 use js_reading::{
     Braces, Bracket, Ending, Frame, Heading, Mode, Opening, Operand, Parser, Pile, Trying,
 };
 use js_statements::{
-    after, bare, below, is_let, is_statement, item, on_semicolon, over_of, settle,
+    after, bare, below, boxed, is_let, is_statement, item, on_semicolon, over_of, settle,
 };
 use sqlite_items::{Boxed, Items};
 use std::alloc::Global;
@@ -37,9 +37,19 @@ fn ends_before(
 ) -> Result<Parser, Stop>
     ensures { Gives (λ x. x) result (ends_before site start operand frames kind) }
 {
-    let closed = whole(alloc, start, operand, frames)?;
-    let over = over_of(alloc, closed.value, closed.frames)?;
-    after(alloc, site, over.value, over.frames, kind)
+    match whole(alloc, start, operand, frames) {
+        Ok(closed) => match over_of(alloc, closed.value, closed.frames) {
+            Ok(over) => after(alloc, site, over.value, over.frames, kind),
+            Err(stop) => {
+                drop(kind);
+                Err(stop)
+            }
+        },
+        Err(stop) => {
+            drop(kind);
+            Err(stop)
+        }
+    }
 }
 
 /// `}` of an object, or of the list around the statement.
@@ -75,7 +85,7 @@ fn close_brace_of(
             object(alloc, site, members, frames)
         }
         Some(frame) => {
-            frames.push(frame)?;
+            let frames = pushed(frames, frame)?;
             let over = over_of(alloc, value, frames)?;
             after(alloc, site, over.value, over.frames, TokenKind::CloseBrace)
         }
@@ -126,18 +136,44 @@ fn ended_by(
     ensures { Gives (λ x. x) result (ends_by line site start operand frames kind) }
 {
     match kind {
-        TokenKind::Arrow => on_arrow(alloc, line, start, operand, frames),
-        TokenKind::Step(op) => step_mark(alloc, line, op, site, start, operand, frames),
-        TokenKind::CloseRound => on_close_round(alloc, start, operand, frames),
-        TokenKind::CloseSquare => on_close_square(alloc, start, operand, frames),
-        TokenKind::CloseBrace => on_close_brace(alloc, site, start, operand, frames),
-        TokenKind::Comma => on_comma(alloc, start, operand, frames),
-        TokenKind::Colon => on_colon(alloc, start, operand, frames),
-        TokenKind::Semicolon => on_semicolon(alloc, start, operand, frames),
-        kind => {
+        TokenKind::Arrow => {
+            drop(kind);
+            on_arrow(alloc, line, start, operand, frames)
+        }
+        TokenKind::Step(op) => {
+            drop(kind);
+            step_mark(alloc, line, op, site, start, operand, frames)
+        }
+        TokenKind::CloseRound => {
+            drop(kind);
+            on_close_round(alloc, start, operand, frames)
+        }
+        TokenKind::CloseSquare => {
+            drop(kind);
+            on_close_square(alloc, start, operand, frames)
+        }
+        TokenKind::CloseBrace => {
+            drop(kind);
+            on_close_brace(alloc, site, start, operand, frames)
+        }
+        TokenKind::Comma => {
+            drop(kind);
+            on_comma(alloc, start, operand, frames)
+        }
+        TokenKind::Colon => {
+            drop(kind);
+            on_colon(alloc, start, operand, frames)
+        }
+        TokenKind::Semicolon => {
+            drop(kind);
+            on_semicolon(alloc, start, operand, frames)
+        }
+        _ => {
             if line {
                 return ends_before(alloc, site, start, operand, frames, kind);
             }
+            drop(kind);
+            drop(operand);
             Err(Stop::Syntax)
         }
     }
@@ -171,11 +207,27 @@ fn heading_on(
     ensures { Gives (λ x. x) result (heading_on line heading at frames kind) }
 {
     match heading {
-        Heading::Open(header) => open_on(alloc, header, frames, kind),
+        Heading::Open(header) => {
+            let parser = open_on(alloc, header, frames, &kind);
+            drop(kind);
+            parser
+        }
         Heading::Parameters { header, names } => parameters_on(header, names, at, frames, kind),
-        Heading::Parameter { header, names } => parameter_on(header, names, frames, kind),
-        Heading::Arrow { start, names } => arrow_due_on(line, start, names, frames, kind),
-        Heading::Braces(braces) => braces_on(alloc, braces, frames, kind),
+        Heading::Parameter { header, names } => {
+            let parser = parameter_on(header, names, frames, &kind);
+            drop(kind);
+            parser
+        }
+        Heading::Arrow { start, names } => {
+            let parser = arrow_due_on(line, start, names, frames, &kind);
+            drop(kind);
+            parser
+        }
+        Heading::Braces(braces) => {
+            let parser = braces_on(alloc, braces, frames, &kind);
+            drop(kind);
+            parser
+        }
     }
 }
 
@@ -190,9 +242,18 @@ pub fn step(alloc: Global, parser: Parser, token: Token) -> Result<Parser, Stop>
         line_before: line,
     } = token;
     match mode {
-        Mode::Statement => item(alloc, at, frames, kind),
-        Mode::Below => below(alloc, at, frames, kind),
-        Mode::Want => want(alloc, at, frames, kind),
+        Mode::Statement => {
+            drop(mode);
+            item(alloc, at, frames, kind)
+        }
+        Mode::Below => {
+            drop(mode);
+            below(alloc, at, frames, kind)
+        }
+        Mode::Want => {
+            drop(mode);
+            want(alloc, at, frames, kind)
+        }
         Mode::Operand { start, operand } => {
             operand_on(alloc, line, at, start, operand, frames, kind)
         }
@@ -211,7 +272,10 @@ fn alone(body: Items<Stmt>, frames: Pile<Frame>) -> Result<Items<Stmt>, Stop>
     let mut frames = frames;
     match frames.pop() {
         None => Ok(body),
-        Some(_) => Err(Stop::Syntax),
+        other => {
+            drop(other);
+            Err(Stop::Syntax)
+        }
     }
 }
 
@@ -221,7 +285,10 @@ fn outermost(braces: Braces, body: Items<Stmt>, frames: Pile<Frame>) -> Result<I
 {
     match braces {
         Braces::Script => alone(body, frames),
-        _ => Err(Stop::Syntax),
+        other => {
+            drop(other);
+            Err(Stop::Syntax)
+        }
     }
 }
 
@@ -232,7 +299,10 @@ fn no_more(frames: Pile<Frame>) -> Result<Items<Stmt>, Stop>
     let mut frames = frames;
     match frames.pop() {
         Some(Frame::List { braces, body }) => outermost(braces, body, frames),
-        _ => Err(Stop::Syntax),
+        other => {
+            drop(other);
+            Err(Stop::Syntax)
+        }
     }
 }
 
@@ -254,10 +324,14 @@ fn ended_ending(alloc: Global, ending: Ending, frames: Pile<Frame>) -> Result<It
         Ending::Do(stmt) => ended(alloc, stmt, frames),
         Ending::Jump(stmt) => ended(alloc, stmt, frames),
         Ending::Return { site } => {
-            let stmt = Boxed::new(alloc, Stmt::Return { site, value: None })?;
+            drop(ending);
+            let stmt = boxed(alloc, bare_return(site))?;
             ended(alloc, stmt, frames)
         }
-        Ending::Throw { .. } => Err(Stop::Syntax),
+        Ending::Throw { .. } => {
+            drop(ending);
+            Err(Stop::Syntax)
+        }
     }
 }
 
@@ -266,16 +340,13 @@ fn ended_trying(alloc: Global, trying: Trying, frames: Pile<Frame>) -> Result<It
 {
     match trying {
         Trying::Caught { site, body, catch } => {
-            let stmt = Stmt::Try {
-                site,
-                body,
-                catch: Some(catch),
-                finally: None,
-            };
-            let stmt = Boxed::new(alloc, stmt)?;
+            let stmt = boxed(alloc, caught(site, body, catch))?;
             ended(alloc, stmt, frames)
         }
-        _ => Err(Stop::Syntax),
+        other => {
+            drop(other);
+            Err(Stop::Syntax)
+        }
     }
 }
 
@@ -290,7 +361,10 @@ fn ended_opening(alloc: Global, opening: Opening, frames: Pile<Frame>) -> Result
             }
             Err(Stop::Syntax)
         }
-        _ => Err(Stop::Syntax),
+        other => {
+            drop(other);
+            Err(Stop::Syntax)
+        }
     }
 }
 
@@ -313,11 +387,17 @@ pub fn ends(alloc: Global, parser: Parser) -> Result<Items<Stmt>, Stop>
 {
     let Parser { mode, frames } = parser;
     match mode {
-        Mode::Statement => no_more(frames),
+        Mode::Statement => {
+            drop(mode);
+            no_more(frames)
+        }
         Mode::Operand { start, operand } => ended_operand(alloc, start, operand, frames),
         Mode::Ending(ending) => ended_ending(alloc, ending, frames),
         Mode::Trying(trying) => ended_trying(alloc, trying, frames),
         Mode::Opening(opening) => ended_opening(alloc, opening, frames),
-        _ => Err(Stop::Syntax),
+        other => {
+            drop(other);
+            Err(Stop::Syntax)
+        }
     }
 }
