@@ -16,14 +16,14 @@ pub enum UnaryOp {
 }
 
 /// `++` and `--` (ECMA-262, section 13.4).
-#[derive(Clone, Copy, Debug, PartialEq, Eq)]
+#[derive(Clone, Copy)]
 pub enum StepOp {
     Increment,
     Decrement,
 }
 
 /// What stands between two operands, both of which are evaluated (ECMA-262, sections 13.7 to 13.12).
-#[derive(Clone, Copy, Debug, PartialEq, Eq)]
+#[derive(Clone, Copy)]
 pub enum BinaryOp {
     /// `*`
     Multiply,
@@ -62,7 +62,7 @@ pub enum BinaryOp {
 }
 
 /// What evaluates its right side only where the left one doesn't decide (ECMA-262, section 13.13).
-#[derive(Clone, Copy, Debug, PartialEq, Eq)]
+#[derive(Clone, Copy)]
 pub enum LogicalOp {
     /// `&&`
     And,

@@ -4,7 +4,7 @@ use js_ast::{BinaryOp, LogicalOp, StepOp};
 use js_units::Units;
 
 /// The reserved words that the grammar names (ECMA-262, section 12.7.2).
-#[derive(Clone, Copy, Debug, PartialEq, Eq)]
+#[derive(Clone, Copy)]
 pub enum Word {
     Break,
     Catch,

@@ -46,9 +46,6 @@ fn begin(alloc: Global) -> Result<Parser, Stop>
     opens_list(alloc, Braces::Script, Pile::new(alloc))
 }
 
-/// A parser that isn't needed any more.
-fn discard(parser: Parser) {}
-
 /// The refusal at a token that was taken.
 fn refusal_of(is_wide: bool, at: usize, parser: &Parser) -> Option<ScriptRefusal>
     ensures { result ≡ refusal_of is_wide at parser.now }
@@ -68,7 +65,7 @@ fn unless_refused(is_wide: bool, at: usize, parser: Parser) -> Result<Parser, Sc
     match refusal_of(is_wide, at, &parser) {
         None => Ok(parser),
         Some(refusal) => {
-            discard(parser);
+            drop(parser);
             Err(refusal)
         }
     }
@@ -135,7 +132,7 @@ fn advance(alloc: Global, text: &Units, progress: Progress) -> Result<Turn, Scri
             Err(refusal) => Err(refusal),
         },
         Err(refusal) => {
-            discard(parser);
+            drop(parser);
             Err(refusal)
         }
     }

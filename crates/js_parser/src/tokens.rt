@@ -14,7 +14,7 @@ use js_units::{NoMemory, Units};
 use std::alloc::Global;
 
 /// What a mark stands for.
-#[derive(Clone, Copy, Debug, PartialEq, Eq)]
+#[derive(Clone, Copy)]
 enum Mark {
     Binary(BinaryOp),
     Logical(LogicalOp),
