@@ -4,9 +4,9 @@ use Rattle.std.specs.Prelude.{Option, Result, Ok, Err}
 use Rattle.js_grammar.specs.declared.token.Token.{Token}
 use Rattle.js_lexer.specs.declared.token.Goal.{Goal}
 use Rattle.js_lexer.specs.Tokens.{IsNext, IsNone}
-use Rattle.js_operands.specs.Answers.{Gives}
-use Rattle.js_operands.specs.declared.stop.Stop.{Stop}
-use Rattle.js_operands.specs.declared.stop.Stop.TheVariants as stop
+use Rattle.js_step_operands.specs.Answers.{Gives}
+use Rattle.js_step_operands.specs.declared.stop.Stop.{Stop}
+use Rattle.js_step_operands.specs.declared.stop.Stop.TheVariants as stop
 use Rattle.js_reading.specs.declared.mode.Parser.{Parser}
 use Rattle.js_parser.specs.Tokens.{IsToken, goal_of}
 use Rattle.js_parser.specs.Outcomes.{Outcome, IsOutcome, outcome_none, outcome_over, outcome_refused, outcome_more, is_wide, refusal_of, unless_refused, judged, taken_by, taken, over}

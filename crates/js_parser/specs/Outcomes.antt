@@ -3,8 +3,8 @@ use Rattle.std.specs.Prelude.{◌≡◌, ℕ, nat_lt, Bool, true, false, cond, L
 use Rattle.js_units.specs.declared.decoding.Utf8Refusal.{Utf8Refusal}
 use Rattle.js_units.specs.declared.decoding.Utf8Refusal.TheVariants as decoding
 use Rattle.js_ast.specs.declared.statement.Stmt.{Stmt}
-use Rattle.js_operands.specs.declared.stop.Stop.{Stop}
-use Rattle.js_operands.specs.declared.stop.Stop.TheVariants as stop
+use Rattle.js_step_operands.specs.declared.stop.Stop.{Stop}
+use Rattle.js_step_operands.specs.declared.stop.Stop.TheVariants as stop
 use Rattle.js_grammar.specs.declared.token.Token.{Token}
 use Rattle.js_lexer.specs.Tokens.{IsNext, IsNone}
 use Rattle.js_lexer.specs.declared.token.Token.{Token as Lexed}

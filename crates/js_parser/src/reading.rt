@@ -2,7 +2,7 @@
 
 ghost use Rattle.std.specs.Prelude.{◌≡◌, ◌≤◌, ◌<◌, ◌^◌, length, Some};
 ghost use Rattle.js_units.specs.Utf8.{utf8_size};
-ghost use Rattle.js_operands.specs.Answers.{Makes};
+ghost use Rattle.js_step_operands.specs.Answers.{Makes};
 ghost use Rattle.js_reading.specs.Reading.{start};
 ghost use Rattle.js_parser.specs.Places.{byte_at};
 ghost use Rattle.js_parser.specs.Outcomes.{taken, judged, unless_refused, refusal_of, over};
@@ -14,8 +14,8 @@ use crate::refusal::{ScriptRefusal, stopped};
 use crate::tokens::goal_of;
 use js_ast::Stmt;
 use js_grammar::Token;
-use js_operands::{Stop, opens_list};
 use js_reading::{Braces, Parser, Pile};
+use js_step_operands::{Stop, opens_list};
 use js_steps::{ends, step};
 use js_units::Units;
 use sqlite_items::Items;

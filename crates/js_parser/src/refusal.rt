@@ -4,7 +4,7 @@ ghost use Rattle.std.specs.Prelude.{◌≡◌};
 ghost use Rattle.js_parser.specs.Outcomes.{stopped, undecoded};
 ghost use Rattle.js_parser.specs.declared.refusal.ScriptRefusal.TheVariants as refusal;
 
-use js_operands::Stop;
+use js_step_operands::Stop;
 use js_units::{NoMemory, Utf8Refusal};
 use std::alloc::AllocError;
 

@@ -4,14 +4,14 @@ ghost use Rattle.std.specs.Prelude.{◌≡◌, Some, None};
 ghost use Rattle.js_ast.specs.declared.statement.Stmt.TheVariants as stmt;
 ghost use Rattle.js_reading.specs.Operands.{word_of};
 ghost use Rattle.js_reading.specs.Statements.{after, do_on, jump_on, return_on, throw_on, ending_on, braces_on, tried_on, catch_head_on, catch_open_on, catch_name_on, caught_by, trying_on};
-ghost use Rattle.js_operands.specs.Answers.{Gives};
+ghost use Rattle.js_step_operands.specs.Answers.{Gives};
 
 use crate::openings::ends_bare;
 use js_ast::{Catch, Identifier, Stmt};
 use js_grammar::{TokenKind, Word};
-use js_operands::{Stop, opens_list, word_of};
 use js_reading::{Braces, Ending, Frame, Parser, Part, Pile, Trying};
-use js_statements::{after, boxed, braces_due, over, trying, want_part};
+use js_step_operands::{Stop, opens_list, word_of};
+use js_step_statements::{after, boxed, braces_due, over, trying, want_part};
 use sqlite_items::{Boxed, Items};
 use std::alloc::Global;
 

@@ -1,14 +1,14 @@
 //! Marks that end an expression between brackets, or a part of a statement.
 
 ghost use Rattle.js_reading.specs.Reading.{close_round_of, on_close_round, comma_of, on_comma};
-ghost use Rattle.js_operands.specs.Answers.{Gives};
+ghost use Rattle.js_step_operands.specs.Answers.{Gives};
 
 use js_ast::Expr;
-use js_brackets::{close_round_in, comma_in, comma_round, round_of};
-use js_operands::{Stop, reached, wrapped};
-use js_operators::whole;
 use js_reading::{Frame, Operand, Parser, Pile};
-use js_statements::{close_round_part, comma_part};
+use js_step_brackets::{close_round_in, comma_in, comma_round, round_of};
+use js_step_operands::{Stop, reached, wrapped};
+use js_step_operators::whole;
+use js_step_statements::{close_round_part, comma_part};
 use sqlite_items::Boxed;
 use std::alloc::Global;
 

@@ -3,13 +3,13 @@
 ghost use Rattle.std.specs.Prelude.{◌≡◌};
 ghost use Rattle.js_grammar.specs.declared.token.TokenKind.TheVariants as k;
 ghost use Rattle.js_reading.specs.Statements.{test_on, for_on, for_first, for_word, for_head_on, declare_on, named_semicolon, named_comma, goes_of, ends_bare, named_ends, named_on, function_name_on, opening_on};
-ghost use Rattle.js_operands.specs.Answers.{Gives, Makes};
+ghost use Rattle.js_step_operands.specs.Answers.{Gives, Makes};
 
 use js_ast::{DeclarationKind, Identifier, LoopHead};
 use js_grammar::{TokenKind, Word};
-use js_operands::{Stop, heading, is_of, pushed, want_word, wants};
 use js_reading::{Declaring, Frame, Header, Heading, Mode, Opening, Parser, Part, Pile, Place};
-use js_statements::{
+use js_step_operands::{Stop, heading, is_of, pushed, want_word, wants};
+use js_step_statements::{
     after, bare, declaration, declaration_over, declares_more, is_let, is_statement, opening,
     want_part,
 };

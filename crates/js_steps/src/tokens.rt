@@ -4,23 +4,23 @@ ghost use Rattle.std.specs.Prelude.{◌∷◌};
 ghost use Rattle.js_reading.specs.Reading.{ends_before, step_mark, ended_operand, close_brace_of, on_close_brace, ends_by, operand_on, heading_on, step, ended, no_more, ended_ending, ended_trying, ended_opening, ends};
 ghost use Rattle.js_reading.specs.declared.frame.Frame.TheVariants as frame;
 ghost use Rattle.js_reading.specs.declared.frame.Braces.TheVariants as braces;
-ghost use Rattle.js_operands.specs.Answers.{Gives};
+ghost use Rattle.js_step_operands.specs.Answers.{Gives};
 
 use crate::endings::{bare_return, braces_on, caught, ending_on, trying_on};
 use crate::marks::{on_close_round, on_comma};
 use crate::openings::opening_on;
 use js_ast::{Expr, Member, StepOp, Stmt};
-use js_brackets::{
-    arrow_due_on, object, on_close_square, on_colon, open_on, parameter_on, parameters_on,
-    piece_on, with_member,
-};
 use js_grammar::{Token, TokenKind};
-use js_operands::{Stop, continues, pushed, want};
-use js_operators::{continued, on_arrow, on_step, whole};
 use js_reading::{
     Braces, Bracket, Ending, Frame, Heading, Mode, Opening, Operand, Parser, Pile, Trying,
 };
-use js_statements::{
+use js_step_brackets::{
+    arrow_due_on, object, on_close_square, on_colon, open_on, parameter_on, parameters_on,
+    piece_on, with_member,
+};
+use js_step_operands::{Stop, continues, pushed, want};
+use js_step_operators::{continued, on_arrow, on_step, whole};
+use js_step_statements::{
     after, bare, below, boxed, is_let, is_statement, item, on_semicolon, over_of, settle,
 };
 use sqlite_items::{Boxed, Items};
