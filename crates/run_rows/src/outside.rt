@@ -83,7 +83,8 @@ fn real_files_and_output(rt: HostRuntime) -> Result<(), Fail> {
 /// How many bytes the file has where a call on it goes so, or why it isn't read.
 fn loaded_by(alloc: Global, call: u32, wrong: Wrong) -> Result<usize, Load> {
     let system = Piecewise::new(Plan { call, wrong });
-    loaded(alloc, &mut DiskFiles::new(&system), b"a", 20)
+    let mut files = DiskFiles::new(&system);
+    Ok(files.load(alloc, b"a", 20)?.len())
 }
 
 /// The first read of which a fault isn't told, after which reading ends too early, or not at the file's end.

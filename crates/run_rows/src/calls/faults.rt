@@ -46,7 +46,7 @@ fn wrong_write<R: Threads + Sync>(
 ) -> Result<Option<u64>, Fail> {
     for call in 1..34u64 {
         let before = piece.saturating_mul((call - 1) as usize).min(WHOLE.len());
-        let mut out = MemSink::new(alloc, 400, piece, vec![in alloc; call]?)?;
+        let mut out = MemSink::new(alloc, 400, piece.max(1), vec![in alloc; call]?)?;
         if !is_written(rt, alloc, &mut out, before)? {
             return Ok(Some(call));
         }

@@ -51,15 +51,18 @@ impl Plan {
 pub struct Opened {
     plan: Plan,
     calls: u32,
-    left: &'static [u8],
+    given: usize,
 }
 
 impl Read for Opened {
     fn read(&mut self, buf: &mut [u8]) -> Result<usize> {
         self.calls = self.calls.wrapping_add(1);
-        let count = self.plan.moved(self.calls, self.left.len().min(buf.len()))?;
-        buf[..count].copy_from_slice(&self.left[..count]);
-        self.left = &self.left[count..];
+        let left = CONTENT.len().saturating_sub(self.given);
+        let count = self.plan.moved(self.calls, left.min(buf.len()))?;
+        let first = CONTENT.len() - left;
+        let content = CONTENT.as_slice();
+        buf[..count].copy_from_slice(&content[first..first + count]);
+        self.given = first + count;
         Ok(count)
     }
 }
@@ -70,7 +73,7 @@ fn unsupported<T>() -> Result<T> {
 
 impl Write for Opened {
     fn write(&mut self, _buf: &[u8]) -> Result<usize> {
-        unsupported()
+        Err(Error::from(ErrorKind::Unsupported))
     }
 
     fn flush(&mut self) -> Result<()> {
@@ -154,7 +157,7 @@ impl Files for Piecewise {
         Ok(Opened {
             plan: self.plan,
             calls: 0,
-            left: CONTENT,
+            given: 0,
         })
     }
 
