@@ -3,6 +3,7 @@
 
 use super::parsed;
 use js_units::{NoMemory, Units};
+use re_ast::Pattern;
 use re_matcher::{Caps, exec};
 use std::alloc::Global;
 use std::test::Fail;
@@ -37,7 +38,35 @@ type Row = (
     &'static str,
 );
 
-/// What a copy of the pattern matches.
+/// What the pattern matches.
+fn matched(
+    alloc: Global,
+    pattern: &Pattern,
+    text: &Units,
+    from: usize,
+) -> Result<String, NoMemory> {
+    if text.len() < from {
+        return Ok(String::from_str(alloc, "past the end")?);
+    }
+    match exec(alloc, pattern, text, from)? {
+        None => Ok(String::from_str(alloc, "none")?),
+        Some(caps) => shown(alloc, &caps),
+    }
+}
+
+/// What a copy of it matches.
+fn copy_matched(
+    alloc: Global,
+    pattern: &Pattern,
+    text: &Units,
+    from: usize,
+) -> Result<String, NoMemory> {
+    let copied = pattern.copy(alloc)?;
+    let found = matched(alloc, &copied, text, from);
+    drop(copied);
+    found
+}
+
 fn answer(
     alloc: Global,
     pattern: &str,
@@ -45,16 +74,13 @@ fn answer(
     text: &Units,
     from: usize,
 ) -> Result<String, NoMemory> {
-    let Some(pattern) = parsed(alloc, pattern, flags)? else {
-        return Ok(String::from_str(alloc, "refused")?);
-    };
-    let copied = pattern.copy(alloc)?;
-    if text.len() < from {
-        return Ok(String::from_str(alloc, "past the end")?);
-    }
-    match exec(alloc, &copied, text, from)? {
-        None => Ok(String::from_str(alloc, "none")?),
-        Some(caps) => shown(alloc, &caps),
+    match parsed(alloc, pattern, flags)? {
+        Some(pattern) => {
+            let found = copy_matched(alloc, &pattern, text, from);
+            drop(pattern);
+            found
+        }
+        None => Ok(String::from_str(alloc, "refused")?),
     }
 }
 

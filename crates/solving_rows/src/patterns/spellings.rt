@@ -152,23 +152,42 @@ fn is_printed(alloc: Global, pattern: &Pattern, groups: u32, tree: &str) -> Resu
     Ok(printed.as_str() == tree && pattern.groups == groups)
 }
 
+fn is_spelt(alloc: Global, text: &str, groups: u32, tree: &str) -> Result<bool, NoMemory> {
+    match parsed(alloc, text, "")? {
+        Some(pattern) => {
+            let found = is_printed(alloc, &pattern, groups, tree);
+            drop(pattern);
+            found
+        }
+        None => Ok(false),
+    }
+}
+
 /// The first body with another tree.
 fn wrong_body(alloc: Global) -> Result<Option<usize>, NoMemory> {
     for (row, (text, groups, tree)) in SPELLINGS.iter().enumerate() {
-        let Some(pattern) = parsed(alloc, text, "")? else {
-            return Ok(Some(row));
-        };
-        if !is_printed(alloc, &pattern, *groups, tree)? {
+        if !is_spelt(alloc, text, *groups, tree)? {
             return Ok(Some(row));
         }
     }
     Ok(None)
 }
 
-/// The flags of a pattern with these letters, and of its copy.
-fn flags_of(alloc: Global, letters: &str) -> Result<Option<(Flags, Flags)>, NoMemory> {
+fn copied_flags(alloc: Global, pattern: &Pattern) -> Result<Flags, NoMemory> {
+    let copied = pattern.copy(alloc)?;
+    let flags = copied.flags;
+    drop(copied);
+    Ok(flags)
+}
+
+/// The flags of a copy of a pattern with these letters.
+fn flags_of(alloc: Global, letters: &str) -> Result<Option<Flags>, NoMemory> {
     match parsed(alloc, "a", letters)? {
-        Some(pattern) => Ok(Some((pattern.flags, pattern.copy(alloc)?.flags))),
+        Some(pattern) => {
+            let flags = copied_flags(alloc, &pattern);
+            drop(pattern);
+            Ok(Some(flags?))
+        }
         None => Ok(None),
     }
 }
@@ -182,7 +201,7 @@ fn wrong_flags(alloc: Global) -> Result<Option<usize>, NoMemory> {
             multiline: *multiline,
             sticky: *sticky,
         };
-        if flags_of(alloc, letters)? != Some((wanted, wanted)) {
+        if flags_of(alloc, letters)? != Some(wanted) {
             return Ok(Some(row));
         }
     }
