@@ -1,4 +1,4 @@
--- What a run answers, by its words and files, and what it writes.
+-- What a run answers, by its words and files, and what it writes. The texts stand in `src/texts.rt`.
 use Rattle.std.specs.Prelude.{◌≡◌, ◌≢◌, ◌⊎◌, ℕ, ◌+◌, ◌<◌, ◌≤◌, List, [], ◌∷◌, ◌++◌, length, codes, decimal, bytes_eq, cond, map, true, false, Option, Some, None, Ok, Err}
 use Rattle.std.specs.Global.{Vec}
 use Rattle.std.specs.Io.KnownBytes.{Appends}
@@ -15,6 +15,7 @@ use Rattle.small_parser.specs.Grammar.{Spells}
 use Rattle.small_parser.specs.Refusals.{IsSyntax}
 use Rattle.report_text.specs.Lines.{report_text}
 use Rattle.explorer.specs.Listing.{max_inputs, IsListed}
+use Rattle.commands.specs.declared.texts.TheConstants.{USAGE, READ_FAULT, TOO_LONG, BOUNDS_REFUSED, TOO_MANY, JSON, VERSION, FIELD, RANGE, ALPHABET, SCRIPT_REFUSED, SYNTAX, LINE_END}
 
 abbrev pub Name : Type 0
 Name = List ℕ
@@ -29,7 +30,7 @@ abbrev pub max_file : ℕ
 max_file = 1048576
 
 abbrev pub usage : List ℕ
-usage = codes "usage: expose list SCRIPT BOUNDS\n"
+usage = USAGE.now
 
 -- what a run knows of the files: what they hold, the last load behind it, and the count of faults before and behind it
 pub record Seen : Type 0 where
@@ -79,7 +80,7 @@ pub record IsReadFault (words : List Name) (seen : Seen) (number : ℕ) (text : 
   pub last : (took : ℕ) × (seen.last ≡ Some (record { name = name; most = max_file; took = took; failed = true }))
   pub rose : Rose seen.before seen.now
   pub number_is : number ≡ 3
-  pub text_is : text ≡ codes "read fault: file " ++ decimal place ++ codes "\n"
+  pub text_is : text ≡ READ_FAULT.now ++ decimal place ++ LINE_END.now
 
 -- it has more bytes than the limit
 pub record IsTooLong (words : List Name) (seen : Seen) (number : ℕ) (text : List ℕ) : Type 0 where
@@ -90,17 +91,17 @@ pub record IsTooLong (words : List Name) (seen : Seen) (number : ℕ) (text : Li
   pub last : seen.last ≡ Some (record { name = name; most = max_file; took = max_file + 1; failed = false })
   pub faults : seen.now ≡ seen.before
   pub number_is : number ≡ 8
-  pub text_is : text ≡ codes "too long: file " ++ decimal place ++ codes "\n"
+  pub text_is : text ≡ TOO_LONG.now ++ decimal place ++ LINE_END.now
 
 -- ---- both files are read: the answer to their bytes
 
 -- json, version, field NAME, range NAME or alphabet NAME
 abbrev pub refusal_text : BoundsRefusal → List ℕ
-refusal_text refusal.Json = codes "json"
-refusal_text refusal.Version = codes "version"
-refusal_text (refusal.Field name) = codes "field " ++ quoted name
-refusal_text (refusal.Range name) = codes "range " ++ quoted name
-refusal_text (refusal.Alphabet name) = codes "alphabet " ++ quoted name
+refusal_text refusal.Json = JSON.now
+refusal_text refusal.Version = VERSION.now
+refusal_text (refusal.Field name) = FIELD.now ++ quoted name
+refusal_text (refusal.Range name) = RANGE.now ++ quoted name
+refusal_text (refusal.Alphabet name) = ALPHABET.now ++ quoted name
 refusal_text refusal.NoMemory = []
 
 -- no bounds stand in the second file
@@ -108,7 +109,7 @@ pub record IsBoundsRefused (bounds : List ℕ) (number : ℕ) (text : List ℕ) 
   pub refused : BoundsRefusal
   pub none : form bounds ≡ Err refused
   pub number_is : number ≡ 6
-  pub text_is : text ≡ codes "bounds refused: " ++ refusal_text refused ++ codes "\n"
+  pub text_is : text ≡ BOUNDS_REFUSED.now ++ refusal_text refused ++ LINE_END.now
 
 -- the bounds have more inputs than are listed
 pub record IsTooMany (bounds : List ℕ) (number : ℕ) (text : List ℕ) : Type 0 where
@@ -116,7 +117,7 @@ pub record IsTooMany (bounds : List ℕ) (number : ℕ) (text : List ℕ) : Type
   pub formed : form bounds ≡ Ok accepted
   pub many : max_inputs < length (within accepted.inputs)
   pub number_is : number ≡ 6
-  pub text_is : text ≡ codes "bounds refused: too many\n"
+  pub text_is : text ≡ BOUNDS_REFUSED.now ++ TOO_MANY.now ++ LINE_END.now
 
 -- bounds stand, with few enough inputs to list
 pub record AreListable (bounds : List ℕ) (accepted : Bounds) : Type 0 where
@@ -131,7 +132,7 @@ pub record IsScriptRefused (script bounds : List ℕ) (number : ℕ) (text : Lis
   pub place : ℕ
   pub place_is : IsSyntax script place
   pub number_is : number ≡ 5
-  pub text_is : text ≡ codes "script refused at " ++ decimal place ++ codes ": syntax\n"
+  pub text_is : text ≡ SCRIPT_REFUSED.now ++ decimal place ++ SYNTAX.now
 
 -- the paths are listed
 pub record IsListing (script bounds : List ℕ) (number : ℕ) (text : List ℕ) : Type 0 where

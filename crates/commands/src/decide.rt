@@ -1,10 +1,14 @@
 //! What is answered, before anything is written.
 
-ghost use Rattle.std.specs.Prelude.{◌≡◌, ◌++◌, ◌≤◌, ℕ, None, length, codes, decimal, IfOk, OnOk};
+ghost use Rattle.std.specs.Prelude.{◌≡◌, ◌++◌, ◌≤◌, ℕ, None, length, decimal, IfOk, OnOk};
 ghost use Rattle.std.specs.Option.{option_map};
 ghost use Rattle.js_units.specs.Quoted.{quoted};
 ghost use Rattle.commands.specs.TopCall.{listed_files, names, seen_by, IsDecided, max_file, refusal_text, ListAnswer};
 
+use crate::texts::{
+    ALPHABET, BOUNDS_REFUSED, FIELD, JSON, LINE_END, RANGE, READ_FAULT, SCRIPT_REFUSED, SYNTAX,
+    TOO_LONG, TOO_MANY, USAGE, VERSION,
+};
 use ex_base::{Files, Load};
 use explorer::list_all;
 use js_units::{NoMemory, Units, escape};
@@ -72,23 +76,23 @@ fn push_refusal(alloc: Global, text: &mut Vec<u8>, refusal: &BoundsRefusal) -> R
 {
     match refusal {
         BoundsRefusal::Json => {
-            text.extend_from_slice(b"json")?;
+            text.extend_from_slice(JSON.as_bytes())?;
             Ok(())
         }
         BoundsRefusal::Version => {
-            text.extend_from_slice(b"version")?;
+            text.extend_from_slice(VERSION.as_bytes())?;
             Ok(())
         }
         BoundsRefusal::Field { name } => {
-            push_named(alloc, text, "field ", name)?;
+            push_named(alloc, text, FIELD, name)?;
             Ok(())
         }
         BoundsRefusal::Range { name } => {
-            push_named(alloc, text, "range ", name)?;
+            push_named(alloc, text, RANGE, name)?;
             Ok(())
         }
         BoundsRefusal::Alphabet { name } => {
-            push_named(alloc, text, "alphabet ", name)?;
+            push_named(alloc, text, ALPHABET, name)?;
             Ok(())
         }
         BoundsRefusal::NoMemory => Err(NoMemory),
@@ -97,11 +101,21 @@ fn push_refusal(alloc: Global, text: &mut Vec<u8>, refusal: &BoundsRefusal) -> R
 
 fn refused_bounds(alloc: Global, refusal: &BoundsRefusal) -> Result<Decided, NoMemory>
     ensures number { IfOk result (λ d. d.number ≡ 6) }
-    ensures text { IfOk result (λ d. d.text.items ≡ codes "bounds refused: " ++ refusal_text refusal.now ++ codes "\n") }
+    ensures text { IfOk result (λ d. d.text.items ≡ BOUNDS_REFUSED.now ++ refusal_text refusal.now ++ LINE_END.now) }
 {
-    let mut text = Vec::from_slice(alloc, b"bounds refused: ")?;
+    let mut text = Vec::from_slice(alloc, BOUNDS_REFUSED.as_bytes())?;
     push_refusal(alloc, &mut text, refusal)?;
-    text.extend_from_slice(b"\n")?;
+    text.extend_from_slice(LINE_END.as_bytes())?;
+    Ok(Decided { number: 6, text })
+}
+
+fn too_many(alloc: Global) -> Result<Decided, NoMemory>
+    ensures number { IfOk result (λ d. d.number ≡ 6) }
+    ensures text { IfOk result (λ d. d.text.items ≡ BOUNDS_REFUSED.now ++ TOO_MANY.now ++ LINE_END.now) }
+{
+    let mut text = Vec::from_slice(alloc, BOUNDS_REFUSED.as_bytes())?;
+    text.extend_from_slice(TOO_MANY.as_bytes())?;
+    text.extend_from_slice(LINE_END.as_bytes())?;
     Ok(Decided { number: 6, text })
 }
 
@@ -116,14 +130,13 @@ fn answer(alloc: Global, script: &[u8], bounds: &[u8]) -> Result<Decided, NoMemo
         Err(refusal) => return refused_bounds(alloc, &refusal),
     };
     if count(&bounds) > MAX_INPUTS {
-        let text = Vec::from_slice(alloc, b"bounds refused: too many\n")?;
-        return Ok(Decided { number: 6, text });
+        return too_many(alloc);
     }
     let script = match parse_script(alloc, script) {
         Ok(script) => script,
         Err(ScriptRefusal::NoMemory) => return Err(NoMemory),
         Err(ScriptRefusal::Syntax { at }) => {
-            return told(alloc, 5, "script refused at ", at, ": syntax\n");
+            return told(alloc, 5, SCRIPT_REFUSED, at, SYNTAX);
         }
     };
     let report = list_all(alloc, &script, &bounds)?;
@@ -143,20 +156,20 @@ pub fn decide<F: Files>(
     let (script, bounds) = match listed_files(words) {
         Some(names) => names,
         None => {
-            let text = Vec::from_slice(alloc, b"usage: expose list SCRIPT BOUNDS\n")?;
+            let text = Vec::from_slice(alloc, USAGE.as_bytes())?;
             return Ok(Decided { number: 2, text });
         }
     };
     let script = match files.load(alloc, script, MAX_FILE) {
         Ok(bytes) => bytes,
-        Err(Load::Failed) => return told(alloc, 3, "read fault: file ", 1, "\n"),
-        Err(Load::TooLong) => return told(alloc, 8, "too long: file ", 1, "\n"),
+        Err(Load::Failed) => return told(alloc, 3, READ_FAULT, 1, LINE_END),
+        Err(Load::TooLong) => return told(alloc, 8, TOO_LONG, 1, LINE_END),
         Err(Load::NoMemory) => return Err(NoMemory),
     };
     let bounds = match files.load(alloc, bounds, MAX_FILE) {
         Ok(bytes) => bytes,
-        Err(Load::Failed) => return told(alloc, 3, "read fault: file ", 2, "\n"),
-        Err(Load::TooLong) => return told(alloc, 8, "too long: file ", 2, "\n"),
+        Err(Load::Failed) => return told(alloc, 3, READ_FAULT, 2, LINE_END),
+        Err(Load::TooLong) => return told(alloc, 8, TOO_LONG, 2, LINE_END),
         Err(Load::NoMemory) => return Err(NoMemory),
     };
     answer(alloc, &script, &bounds)

@@ -2,6 +2,7 @@
 #![tactic(auto)]
 
 mod decide;
+mod texts;
 mod top;
 
 pub use top::{Status, run};

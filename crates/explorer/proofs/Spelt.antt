@@ -6,7 +6,8 @@ use Rattle.std.proofs.lemmas.List.Elements.{All-head, All-tail}
 use Rattle.std.proofs.lemmas.Bool.Decides.{nat_tests}
 use Rattle.path_core.specs.declared.bounds.Bounds.{Bounds}
 use Rattle.path_core.specs.declared.bounds.Declared.{Declared}
-use Rattle.path_core.specs.Names.{is_letter, is_name_byte, is_word}
+use Rattle.js_units.specs.Characters.{is_letter, is_digit, is_name_start, is_name_part}
+use Rattle.path_core.specs.Names.{is_word}
 use Rattle.path_core.specs.Accepted.{IsAccepted}
 use Rattle.path_core.specs.Inputs.{Values, within}
 use Rattle.small_ast.specs.declared.tree.Script.{Script}

@@ -3,9 +3,11 @@ use Rattle.std.proofs.Common.{◌≡◌, ℕ, ◌-◌, ◌≤◌, ◌<◌, Bool,
 use Rattle.std.specs.Prelude.{◌⊎◌, ◌&&◌, ◌==◌}
 use Rattle.std.proofs.lemmas.Bool.{eqb-true, and_parts, cases_lt}
 use Rattle.std.proofs.lemmas.List.{take_at}
-use Rattle.js_lexer.specs.Classes.{is_digit, is_name_start, is_name_part, is_quote}
+use Rattle.js_units.specs.Characters.{is_digit, is_name_start, is_name_part}
+use Rattle.js_lexer.specs.Classes.{is_quote}
 use Rattle.js_lexer.specs.Runs.{starts, IsRun, skip_while}
-use Rattle.js_lexer.specs.Tables.{is_among, reserved_words}
+use Rattle.js_units.specs.Words.{reserved_words}
+use Rattle.js_lexer.specs.Tables.{is_among}
 use Rattle.js_lexer.specs.Texts.{IsText, IsQuoted}
 use Rattle.js_lexer.specs.Patterns.{IsPattern}
 use Rattle.js_lexer.specs.Lexemes.{IsName, Spells}

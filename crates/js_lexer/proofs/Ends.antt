@@ -4,7 +4,7 @@ use Rattle.std.specs.Prelude.{◌||◌, ◌==◌}
 use Rattle.std.proofs.lemmas.List.{append_assoc, take-append-drop}
 use Rattle.std.proofs.lemmas.List.Prefix.{end_rest}
 use Rattle.js_lexer.specs.Trivia.{IsTrivia}
-use Rattle.js_lexer.specs.Classes.{is_name_start}
+use Rattle.js_units.specs.Characters.{is_name_start}
 use Rattle.js_lexer.specs.Runs.{starts}
 use Rattle.js_lexer.specs.Lexemes.{IsName, Spells, IsLongest}
 use Rattle.js_lexer.specs.Reading.{IsBest, LongestToken}

@@ -4,7 +4,8 @@ use Rattle.std.specs.Prelude.{◌⊎◌, ◌||◌, ◌&&◌, ◌==◌, not, code
 use Rattle.std.specs.List.{list_all}
 use Rattle.std.proofs.lemmas.Bool.{eqb-true, and_parts, not-true}
 use Rattle.std.proofs.lemmas.Slice.Eq.{bytes_eq-Decides}
-use Rattle.js_lexer.specs.Classes.{is_letter, is_digit, is_name_start, is_quote}
+use Rattle.js_units.specs.Characters.{is_letter, is_digit, is_name_start}
+use Rattle.js_lexer.specs.Classes.{is_quote}
 use Rattle.js_lexer.specs.Runs.{starts}
 use Rattle.js_lexer.specs.Tables.{is_among, marks, refused_marks}
 use Rattle.js_lexer.specs.Numbers.{IsNumeral}

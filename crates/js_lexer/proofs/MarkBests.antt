@@ -2,7 +2,7 @@
 use Rattle.std.proofs.Common.{◌≡◌, ℕ, ◌+◌, ◌≤◌, ◌<◌, Bool, true, false, cond, List, ◌++◌, length, drop, Option, Some, None, refl, sym, ap, subst, ◌∙◌, arith, inl, inr, length-append, length-drop}
 use Rattle.std.specs.Prelude.{◌⊎◌, ◌&&◌, not, nat_lt, max, codes}
 use Rattle.std.proofs.lemmas.Bool.{cases_lt, ltb-true}
-use Rattle.js_lexer.specs.Classes.{is_digit}
+use Rattle.js_units.specs.Characters.{is_digit}
 use Rattle.js_lexer.specs.Runs.{starts}
 use Rattle.js_lexer.specs.Tables.{is_among, marks, refused_marks}
 use Rattle.js_lexer.specs.Lexemes.{IsMark, is_refused, IsRefused, Spells}

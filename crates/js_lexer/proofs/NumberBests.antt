@@ -4,7 +4,8 @@ use Rattle.std.specs.Prelude.{◌||◌, ◌&&◌, ◌==◌, nat_le}
 use Rattle.std.specs.Option.{option_map}
 use Rattle.std.specs.List.{list_all}
 use Rattle.std.proofs.lemmas.Bool.{eqb-true, and_parts, ne_eqb, leb-true}
-use Rattle.js_lexer.specs.Classes.{is_digit, is_hexadecimal, is_name_start, is_name_part, is_letter, continues_number}
+use Rattle.js_units.specs.Characters.{is_digit, is_hexadecimal, is_name_start, is_name_part, is_letter}
+use Rattle.js_lexer.specs.Classes.{continues_number}
 use Rattle.js_lexer.specs.Runs.{starts, IsRun, skip_while}
 use Rattle.js_lexer.specs.Numbers.{is_digit_of, value_from, leads_with_zero, IsNumeral, IsDecimal, IsHexadecimal, max_safe}
 use Rattle.js_lexer.specs.Digits.{capped, capped_from, digits_at, after_prefix, number_by, number_at}

@@ -2,7 +2,7 @@
 use Rattle.std.proofs.Common.{◌≡◌, ℕ, ◌+◌, ◌*◌, true, false, List, [], ◌∷◌, ◌++◌, refl, ap, ◌∙◌, arith}
 use Rattle.std.specs.List.{list_all}
 use Rattle.std.proofs.lemmas.Bool.{and_parts}
-use Rattle.js_lexer.specs.Classes.{is_hexadecimal, digit_value}
+use Rattle.js_units.specs.Characters.{is_hexadecimal, digit_value}
 use Rattle.js_lexer.specs.Runs.{starts, IsRun}
 use Rattle.js_lexer.specs.Numbers.{radix, is_digit_of, value_from}
 use Rattle.js_lexer.specs.Digits.{capped, capped_from}

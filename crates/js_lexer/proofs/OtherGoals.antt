@@ -2,7 +2,8 @@
 use Rattle.std.proofs.Common.{◌≡◌, ℕ, Bool, true, false, List, [], ◌∷◌, ◌++◌, drop, Some, refl, sym, ap, ◌∙◌, inl, inr}
 use Rattle.std.specs.Prelude.{◌⊎◌, ◌||◌, ◌==◌, not}
 use Rattle.std.proofs.lemmas.Bool.{eqb-true}
-use Rattle.js_lexer.specs.Classes.{is_letter, is_digit, is_name_start, is_quote}
+use Rattle.js_units.specs.Characters.{is_letter, is_digit, is_name_start}
+use Rattle.js_lexer.specs.Classes.{is_quote}
 use Rattle.js_lexer.specs.Patterns.{IsPattern}
 use Rattle.js_lexer.specs.Lexemes.{permits, IsMark, Spells, IsLongest}
 use Rattle.js_lexer.specs.Reading.{family_of}

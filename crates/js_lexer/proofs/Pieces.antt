@@ -3,7 +3,8 @@ use Rattle.std.proofs.Common.{◌≡◌, ℕ, ◌≤◌, Bool, true, false, cond
 use Rattle.std.specs.Prelude.{◌⊎◌, ◌||◌, ◌&&◌, ◌==◌}
 use Rattle.std.specs.List.{list_any}
 use Rattle.std.proofs.lemmas.Bool.{eqb-true, and_parts}
-use Rattle.js_lexer.specs.Classes.{is_white_space, is_line_end, is_comment_unit}
+use Rattle.js_units.specs.Characters.{is_white_space, is_line_end}
+use Rattle.js_lexer.specs.Classes.{is_comment_unit}
 use Rattle.js_lexer.specs.Trivia.{IsToLineEnd, IsToClose, IsPiece, piece_white_space, piece_line_end, piece_line_comment, piece_block_comment, piece_hashbang}
 use Rattle.js_lexer.specs.Skipping.{after_pair, to_line_end, to_close, close_by, line_by, block_by, hashbang_by, comment_at, piece_at}
 use Rattle.js_lexer.proofs.Spans.{run_of, run_only}

@@ -4,7 +4,7 @@ use Rattle.std.specs.Prelude.{◌||◌, ◌&&◌, ◌==◌, not, nat_le}
 use Rattle.std.specs.List.{list_all}
 use Rattle.std.proofs.lemmas.Bool.{eqb-true, and_parts}
 use Rattle.js_units.specs.CodeUnits.{encode}
-use Rattle.js_lexer.specs.Classes.{is_line_end, is_digit, is_hexadecimal, digit_value}
+use Rattle.js_units.specs.Characters.{is_line_end, is_digit, is_hexadecimal, digit_value}
 use Rattle.js_lexer.specs.Runs.{starts, IsRun, skip_while}
 use Rattle.js_lexer.specs.Numbers.{is_digit_of, value_from}
 use Rattle.js_lexer.specs.Digits.{capped, capped_from}

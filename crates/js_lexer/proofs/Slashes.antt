@@ -2,7 +2,7 @@
 use Rattle.std.proofs.Common.{◌≡◌, ℕ, ◌<◌, Bool, true, false, cond, List, [], ◌∷◌, length, Option, Some, None, refl, sym, ap, subst, ◌∙◌, arith}
 use Rattle.std.specs.Prelude.{◌||◌, ◌&&◌, ◌==◌, not}
 use Rattle.std.proofs.lemmas.Bool.{eqb-true, and_parts}
-use Rattle.js_lexer.specs.Classes.{is_line_end}
+use Rattle.js_units.specs.Characters.{is_line_end}
 use Rattle.js_lexer.specs.Patterns.{is_body_unit, class_behind, IsBody, body_closes, body_unit, body_escape}
 use Rattle.js_lexer.specs.Bodies.{taken_along, body_at, slash_at, BodyEndsAt}
 use Rattle.js_lexer.proofs.Gaps.{IsPast, past_one, past_more, past_behind}

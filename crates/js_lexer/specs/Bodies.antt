@@ -1,6 +1,6 @@
 -- This project's own: bodies of patterns, read from left to right.
 use Rattle.std.specs.Prelude.{ℕ, ◌==◌, ◌&&◌, not, Bool, List, [], ◌∷◌, Option, Some, None, if◌then◌else◌}
-use Rattle.js_lexer.specs.Classes.{is_line_end}
+use Rattle.js_units.specs.Characters.{is_line_end}
 use Rattle.js_lexer.specs.Patterns.{is_body_unit, class_behind, IsBody, IsPattern}
 
 abbrev pub taken_along : Bool → List ℕ → Option (Bool × List ℕ)

@@ -1,6 +1,7 @@
 -- This project's own: numbers, read from left to right.
 use Rattle.std.specs.Prelude.{ℕ, ◌+◌, ◌*◌, ◌==◌, ◌&&◌, ◌||◌, List, [], ◌∷◌, length, min, Option, Some, None, if◌then◌else◌}
-use Rattle.js_lexer.specs.Classes.{digit_value, continues_number}
+use Rattle.js_units.specs.Characters.{digit_value}
+use Rattle.js_lexer.specs.Classes.{continues_number}
 use Rattle.js_lexer.specs.Runs.{starts, skip_while}
 use Rattle.js_lexer.specs.Numbers.{radix, is_digit_of, leads_with_zero}
 use Rattle.js_lexer.specs.declared.numbers.Base.{Base}

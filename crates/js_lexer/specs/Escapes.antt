@@ -1,7 +1,7 @@
 -- This project's own: characters of texts, read from left to right.
 use Rattle.std.specs.Prelude.{ℕ, ◌+◌, ◌*◌, ◌==◌, ◌&&◌, nat_le, List, [], ◌∷◌, Option, Some, None, if◌then◌else◌}
 use Rattle.js_units.specs.CodeUnits.{encode}
-use Rattle.js_lexer.specs.Classes.{is_line_end, is_digit, is_hexadecimal, digit_value}
+use Rattle.js_units.specs.Characters.{is_line_end, is_digit, is_hexadecimal, digit_value}
 use Rattle.js_lexer.specs.Runs.{starts, skip_while}
 use Rattle.js_lexer.specs.Numbers.{is_digit_of}
 use Rattle.js_lexer.specs.Digits.{capped_from}

@@ -1,9 +1,10 @@
 -- What the units at a place spell (ECMA-262, section 12), and the longest of it.
 use Rattle.std.specs.Prelude.{◌≡◌, ◌<◌, ◌≤◌, ℕ, ◌==◌, ◌&&◌, ◌||◌, not, Bool, true, false, List, [], ◌++◌, length, codes, bytes_eq}
 use Rattle.std.specs.List.{list_all}
-use Rattle.js_lexer.specs.Classes.{is_name_start, is_name_part, is_digit}
+use Rattle.js_units.specs.Characters.{is_name_start, is_name_part, is_digit}
 use Rattle.js_lexer.specs.Runs.{starts}
-use Rattle.js_lexer.specs.Tables.{is_among, reserved_words, marks, refused_marks}
+use Rattle.js_units.specs.Words.{reserved_words}
+use Rattle.js_lexer.specs.Tables.{is_among, marks, refused_marks}
 use Rattle.js_lexer.specs.Numbers.{IsNumeral, max_safe}
 use Rattle.js_lexer.specs.Texts.{IsText}
 use Rattle.js_lexer.specs.Patterns.{IsPattern}

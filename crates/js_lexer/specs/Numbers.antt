@@ -1,7 +1,8 @@
 -- Numeric literals (ECMA-262, section 12.9.3): whole ones, decimal or hexadecimal.
 use Rattle.std.specs.Prelude.{◌≡◌, ◌<◌, ◌⊎◌, ℕ, ◌+◌, ◌*◌, ◌==◌, ◌&&◌, ◌||◌, Bool, true, false, List, [], ◌∷◌, ◌++◌, length}
 use Rattle.std.specs.List.{list_all}
-use Rattle.js_lexer.specs.Classes.{is_digit, is_hexadecimal, digit_value, continues_number}
+use Rattle.js_units.specs.Characters.{is_digit, is_hexadecimal, digit_value}
+use Rattle.js_lexer.specs.Classes.{continues_number}
 use Rattle.js_lexer.specs.Runs.{starts}
 use Rattle.js_lexer.specs.declared.numbers.Base.{Base}
 use Rattle.js_lexer.specs.declared.numbers.Base.TheVariants as base

@@ -1,6 +1,7 @@
 -- Regular expression literals (ECMA-262, section 12.9.5).
 use Rattle.std.specs.Prelude.{◌≡◌, ℕ, ◌==◌, ◌&&◌, ◌||◌, not, Bool, true, false, List, ◌∷◌, ◌++◌, if◌then◌else◌}
-use Rattle.js_lexer.specs.Classes.{is_line_end, is_flag}
+use Rattle.js_units.specs.Characters.{is_line_end}
+use Rattle.js_lexer.specs.Classes.{is_flag}
 use Rattle.js_lexer.specs.Runs.{starts, IsRun}
 
 -- no line end and no backslash, and a `/` only in a class

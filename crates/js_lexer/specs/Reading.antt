@@ -1,6 +1,7 @@
 -- This project's own: the longest lexeme, and how it is set apart from every other.
 use Rattle.std.specs.Prelude.{◌≡◌, ◌<◌, ◌⊎◌, ◌==◌, ◌&&◌, ℕ, Bool, true, false, List, [], ◌∷◌, length, Option, Some, None, if◌then◌else◌}
-use Rattle.js_lexer.specs.Classes.{is_name_start, is_digit, is_quote}
+use Rattle.js_units.specs.Characters.{is_name_start, is_digit}
+use Rattle.js_lexer.specs.Classes.{is_quote}
 use Rattle.js_lexer.specs.Escapes.{ClosesAt}
 use Rattle.js_lexer.specs.Bodies.{PatternEndsAt}
 use Rattle.js_lexer.specs.Lexemes.{Spells, IsLongest}

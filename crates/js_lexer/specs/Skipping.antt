@@ -1,6 +1,7 @@
 -- This project's own: trivia, read from left to right.
 use Rattle.std.specs.Prelude.{ℕ, ◌==◌, ◌&&◌, ◌||◌, Bool, true, false, List, [], ◌∷◌, Option, Some, None, if◌then◌else◌}
-use Rattle.js_lexer.specs.Classes.{is_white_space, is_line_end, is_comment_unit}
+use Rattle.js_units.specs.Characters.{is_white_space, is_line_end}
+use Rattle.js_lexer.specs.Classes.{is_comment_unit}
 use Rattle.js_lexer.specs.Runs.{skip_while}
 
 -- what is behind two units

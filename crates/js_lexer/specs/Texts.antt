@@ -2,7 +2,8 @@
 use Rattle.std.specs.Prelude.{◌≡◌, ◌<◌, ◌≤◌, ℕ, ◌+◌, ◌*◌, ◌==◌, ◌||◌, not, Bool, true, false, List, [], ◌∷◌, ◌++◌, length, if◌then◌else◌}
 use Rattle.std.specs.List.{list_all}
 use Rattle.js_units.specs.CodeUnits.{encode}
-use Rattle.js_lexer.specs.Classes.{is_line_end, is_digit, is_hexadecimal, digit_value, is_quote}
+use Rattle.js_units.specs.Characters.{is_line_end, is_digit, is_hexadecimal, digit_value}
+use Rattle.js_lexer.specs.Classes.{is_quote}
 use Rattle.js_lexer.specs.Runs.{starts}
 use Rattle.js_lexer.specs.Numbers.{value_from}
 use Rattle.js_lexer.specs.declared.numbers.Base.TheVariants as base

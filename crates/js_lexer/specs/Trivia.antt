@@ -1,7 +1,8 @@
 -- White space, line ends and comments (ECMA-262, sections 12.2 to 12.5).
 use Rattle.std.specs.Prelude.{◌≡◌, ◌≤◌, ℕ, ◌||◌, Bool, true, false, List, ◌∷◌, ◌++◌, length}
 use Rattle.std.specs.List.{list_any}
-use Rattle.js_lexer.specs.Classes.{is_white_space, is_line_end, is_comment_unit}
+use Rattle.js_units.specs.Characters.{is_white_space, is_line_end}
+use Rattle.js_lexer.specs.Classes.{is_comment_unit}
 use Rattle.js_lexer.specs.Runs.{IsRun}
 
 -- the rest of a comment that goes up to the line end, which isn't part of it

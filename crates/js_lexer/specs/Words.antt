@@ -1,9 +1,10 @@
 -- This project's own: names and marks, read from left to right.
 use Rattle.std.specs.Prelude.{ℕ, ◌-◌, ◌==◌, ◌&&◌, not, nat_le, nat_lt, Bool, true, false, List, [], ◌∷◌, length, take, drop, max, codes, Option, Some, None, if◌then◌else◌}
 use Rattle.std.specs.Option.{option_map}
-use Rattle.js_lexer.specs.Classes.{is_name_part, is_digit}
+use Rattle.js_units.specs.Characters.{is_name_part, is_digit}
 use Rattle.js_lexer.specs.Runs.{starts, skip_while}
-use Rattle.js_lexer.specs.Tables.{is_among, reserved_words, marks, refused_marks}
+use Rattle.js_units.specs.Words.{reserved_words}
+use Rattle.js_lexer.specs.Tables.{is_among, marks, refused_marks}
 use Rattle.js_lexer.specs.Numbers.{max_safe}
 use Rattle.js_lexer.specs.Digits.{number_at}
 use Rattle.js_lexer.specs.declared.token.TokenKind.TheVariants as k

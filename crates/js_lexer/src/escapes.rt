@@ -7,10 +7,9 @@ ghost use Rattle.js_lexer.specs.Texts.{escaped, is_plain};
 ghost use Rattle.js_lexer.specs.Escapes.{units_of, byte_at, unit_at, point_at, unicode_at, zero_at, line_end_at, escape_at, character_at, inside_at, close_at};
 ghost use Rattle.js_lexer.specs.Runs.{starts};
 
-use crate::classes::{
-    BACKSLASH, CARRIAGE_RETURN, LINE_FEED, digit_value, is_digit, is_hexadecimal, is_line_end,
-};
+use crate::classes::{BACKSLASH, CARRIAGE_RETURN, LINE_FEED};
 use crate::numbers::{Base, after_digits, capped_value};
+use js_units::{digit_value, is_digit, is_hexadecimal, is_line_end};
 
 /// The code units for which a character of a text stands.
 #[derive(Clone, Copy)]

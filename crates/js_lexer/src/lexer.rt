@@ -8,7 +8,7 @@ ghost use Rattle.js_lexer.specs.Tokens.{Next};
 ghost use Rattle.js_lexer.specs.declared.token.Token.{Token};
 ghost use Rattle.js_lexer.specs.declared.token.LexRefusal.{LexRefusal};
 
-use crate::classes::{SLASH, is_digit, is_name_start, is_quote};
+use crate::classes::{SLASH, is_quote};
 use crate::marks::mark;
 use crate::names::name;
 use crate::numbers::numeral;
@@ -17,7 +17,7 @@ use crate::slices::{first_of, units_from};
 use crate::texts::after_text;
 use crate::token::{Goal, LexRefusal, Lexeme, Token, TokenKind};
 use crate::trivia::after_trivia;
-use js_units::Units;
+use js_units::{Units, is_digit, is_name_start};
 
 fn wants_pattern(goal: Goal) -> bool
     ensures { result ≡ wants_pattern goal }

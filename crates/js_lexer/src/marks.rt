@@ -4,9 +4,9 @@ ghost use Rattle.std.specs.Prelude.{◌≡◌};
 ghost use Rattle.std.specs.Option.{option_map};
 ghost use Rattle.js_lexer.specs.Words.{comment_close, optional_chain, longest_refused, mark_at};
 
-use crate::classes::is_digit;
 use crate::tables::{begins_with, longest_mark, longest_refused_mark};
 use crate::token::{Lexeme, TokenKind};
+use js_units::is_digit;
 
 /// The length of `-->` at the start of a line.
 #[tactic(auto, unfolding(crate::specs::Words::comment_close))]

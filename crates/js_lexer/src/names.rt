@@ -1,13 +1,13 @@
 //! Names and reserved words (ECMA-262, section 12.7).
 
 ghost use Rattle.std.specs.Prelude.{◌≡◌};
-ghost use Rattle.js_lexer.specs.Classes.{is_name_part};
+ghost use Rattle.js_units.specs.Characters.{is_name_part};
 ghost use Rattle.js_lexer.specs.Runs.{skip_while};
 ghost use Rattle.js_lexer.specs.Words.{name_at};
 
-use crate::classes::is_name_part;
 use crate::tables::is_reserved;
 use crate::token::{Lexeme, TokenKind};
+use js_units::is_name_part;
 
 /// What is behind the parts of a name at the front.
 fn after_parts(units: &[u16]) -> &[u16]

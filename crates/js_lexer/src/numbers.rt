@@ -7,8 +7,9 @@ ghost use Rattle.js_lexer.specs.Numbers.{radix, is_digit_of, leads_with_zero};
 ghost use Rattle.js_lexer.specs.Digits.{capped_from, digits_at, after_prefix, number_at};
 ghost use Rattle.js_lexer.specs.Words.{numeral_at};
 
-use crate::classes::{continues_number, digit_value, is_digit, is_hexadecimal};
+use crate::classes::continues_number;
 use crate::token::{Lexeme, TokenKind};
+use js_units::{digit_value, is_digit, is_hexadecimal};
 
 /// The base in which a number is written.
 #[derive(Clone, Copy)]

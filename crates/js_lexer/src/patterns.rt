@@ -7,8 +7,9 @@ ghost use Rattle.js_lexer.specs.Runs.{skip_while, starts};
 ghost use Rattle.js_lexer.specs.Patterns.{is_body_unit, class_behind, begins_comment, IsPattern};
 ghost use Rattle.js_lexer.specs.Bodies.{taken_along, body_at, slash_at, BodyEndsAt, PatternEndsAt, HasPattern};
 
-use crate::classes::{BACKSLASH, SLASH, STAR, is_flag, is_line_end};
+use crate::classes::{BACKSLASH, SLASH, STAR, is_flag};
 use crate::slices::{units_from, units_to};
+use js_units::is_line_end;
 
 const OPEN_BRACKET: u16 = 0x5b;
 

@@ -1,59 +1,11 @@
-//! The table of reserved words and the tables of marks, each with one rule.
+//! The tables of marks, each with one rule, and whether units stand in the table of reserved words.
 
-ghost use Rattle.std.specs.Prelude.{◌≡◌, map, length, bytes_eq};
-ghost use Rattle.js_lexer.specs.Tables.{is_among, reserved_words, marks, refused_marks};
+ghost use Rattle.std.specs.Prelude.{◌≡◌, map, length};
+ghost use Rattle.js_units.specs.Words.{reserved_words};
+ghost use Rattle.js_lexer.specs.Tables.{is_among, marks, refused_marks};
 ghost use Rattle.js_lexer.specs.Words.{begins_with, longest_of};
 
-const RESERVED_WORDS: [&str; 48] = [
-    "arguments",
-    "await",
-    "break",
-    "case",
-    "catch",
-    "class",
-    "const",
-    "continue",
-    "debugger",
-    "default",
-    "delete",
-    "do",
-    "else",
-    "enum",
-    "eval",
-    "export",
-    "extends",
-    "false",
-    "finally",
-    "for",
-    "function",
-    "if",
-    "implements",
-    "import",
-    "in",
-    "instanceof",
-    "interface",
-    "let",
-    "new",
-    "null",
-    "package",
-    "private",
-    "protected",
-    "public",
-    "return",
-    "static",
-    "super",
-    "switch",
-    "this",
-    "throw",
-    "true",
-    "try",
-    "typeof",
-    "var",
-    "void",
-    "while",
-    "with",
-    "yield",
-];
+use js_units::{RESERVED_WORDS, equals_bytes};
 
 const MARKS: [&str; 48] = [
     "{", "}", "(", ")", "[", "]", ".", ";", ",", "<", ">", "<=", ">=", "===", "!==", "+", "-", "*",
@@ -63,25 +15,6 @@ const MARKS: [&str; 48] = [
 
 /// Marks of the standard that this language leaves out, and the start of an HTML-like comment.
 const REFUSED_MARKS: [&str; 8] = ["...", "**", "&&=", "||=", "??=", "==", "!=", "<!--"];
-
-/// Whether the units are those of an entry.
-fn equals(entry: &[u8], units: &[u16]) -> bool
-    ensures { result ≡ bytes_eq entry.now units.now }
-{
-    let mut bytes = entry;
-    let mut left = units;
-    while let [byte, more @ ..] = bytes {
-        let [unit, rest @ ..] = left else {
-            return false;
-        };
-        if u16::from(*byte) != *unit {
-            return false;
-        }
-        bytes = more;
-        left = rest;
-    }
-    left.is_empty()
-}
 
 /// Whether the units begin with those of an entry.
 pub fn begins_with(entry: &[u8], units: &[u16]) -> bool
@@ -107,7 +40,7 @@ fn is_among(table: &[&str], units: &[u16]) -> bool
 {
     let mut entries = table;
     while let [entry, rest @ ..] = entries {
-        if equals(entry.as_bytes(), units) {
+        if equals_bytes(entry.as_bytes(), units) {
             return true;
         }
         entries = rest;
@@ -131,7 +64,7 @@ fn longest_of(table: &[&str], units: &[u16]) -> usize
 }
 
 /// Whether the units are a reserved word.
-#[tactic(auto, unfolding(crate::specs::Tables::reserved_words))]
+#[tactic(auto, unfolding(js_units::specs::Words::reserved_words))]
 pub fn is_reserved(units: &[u16]) -> bool
     ensures { result ≡ is_among reserved_words units.now }
 {

@@ -5,7 +5,8 @@ ghost use Rattle.std.specs.Option.{option_map};
 ghost use Rattle.js_lexer.specs.Trivia.{IsTrivia};
 ghost use Rattle.js_lexer.specs.Skipping.{after_pair, to_line_end, to_close, comment_at, piece_at};
 
-use crate::classes::{SLASH, STAR, is_comment_unit, is_line_end, is_white_space};
+use crate::classes::{SLASH, STAR, is_comment_unit};
+use js_units::{is_line_end, is_white_space};
 
 const HASH: u16 = 0x23;
 

@@ -1,6 +1,6 @@
 //! The lexer's tokens as the grammar groups them, and their byte offsets.
 
-ghost use Rattle.std.specs.Prelude.{◌≡◌, ◌≢◌, ◌≤◌, bytes_eq, map, length, Some, IfOk};
+ghost use Rattle.std.specs.Prelude.{◌≡◌, ◌≢◌, ◌≤◌, map, length, Some, IfOk};
 ghost use Rattle.js_grammar.specs.declared.token.TokenKind.TheVariants as k;
 ghost use Rattle.js_lexer.specs.Tokens.{IsTokenOf};
 ghost use Rattle.js_lexer.specs.declared.token.TokenKind.TheVariants as lexed;
@@ -10,7 +10,7 @@ use js_ast::{BinaryOp, LogicalOp, StepOp};
 use js_grammar::{TokenKind, Word};
 use js_lexer::{Goal, number_of, text_of};
 use js_reading::{Mode, Operand};
-use js_units::{NoMemory, Units};
+use js_units::{NoMemory, Units, equals_bytes};
 use std::alloc::Global;
 
 /// What a mark stands for.
@@ -114,31 +114,12 @@ const WORDS: [(&str, Word); 21] = [
 /// 2^53, which stands for every number above the greatest one.
 const WIDE: u64 = 9_007_199_254_740_992;
 
-/// Whether the units are those of an entry.
-fn equals(entry: &[u8], units: &[u16]) -> bool
-    ensures { result ≡ bytes_eq entry.now units.now }
-{
-    let mut bytes = entry;
-    let mut left = units;
-    while let [byte, more @ ..] = bytes {
-        let [unit, rest @ ..] = left else {
-            return false;
-        };
-        if u16::from(*byte) != *unit {
-            return false;
-        }
-        bytes = more;
-        left = rest;
-    }
-    left.is_empty()
-}
-
 fn mark_in(table: &[(&str, Mark)], units: &[u16]) -> Option<Mark>
     ensures { result ≡ entry (map (λ e. (e.0.now, e.1)) table.now) units.now }
 {
     let mut entries = table;
     while let [(entry, mark), rest @ ..] = entries {
-        if equals(entry.as_bytes(), units) {
+        if equals_bytes(entry.as_bytes(), units) {
             return Some(*mark);
         }
         entries = rest;
@@ -158,7 +139,7 @@ fn word_in(table: &[(&str, Word)], units: &[u16]) -> Option<Word>
 {
     let mut entries = table;
     while let [(entry, word), rest @ ..] = entries {
-        if equals(entry.as_bytes(), units) {
+        if equals_bytes(entry.as_bytes(), units) {
             return Some(*word);
         }
         entries = rest;

@@ -13,6 +13,25 @@ pub struct Units {
     units: Vec<u16>,
 }
 
+/// Whether the units are the numbers of the bytes.
+pub fn equals_bytes(bytes: &[u8], units: &[u16]) -> bool
+    ensures { result ≡ bytes_eq bytes.now units.now }
+{
+    let mut left = bytes;
+    let mut rest = units;
+    while let [byte, others @ ..] = left {
+        let [unit, more @ ..] = rest else {
+            return false;
+        };
+        if u16::from(*byte) != *unit {
+            return false;
+        }
+        left = others;
+        rest = more;
+    }
+    rest.is_empty()
+}
+
 impl Model for Units {
     ghost use Rattle.std.specs.Prelude.{ℕ, List};
 
@@ -108,22 +127,11 @@ impl Units {
     }
 
     /// Whether the units are the numbers of the bytes.
+    #[tactic(auto, using(crate::proofs::Equality::either_way))]
     pub fn equals_bytes(&self, bytes: &[u8]) -> bool
         ensures { result ≡ bytes_eq self.now bytes.now }
     {
-        let mut units = self.units.as_slice();
-        let mut rest = bytes;
-        while let [unit, more @ ..] = units {
-            let [byte, others @ ..] = rest else {
-                return false;
-            };
-            if *unit != u16::from(*byte) {
-                return false;
-            }
-            units = more;
-            rest = others;
-        }
-        rest.is_empty()
+        equals_bytes(bytes, &self.units)
     }
 
     /// Whether the two have the same units.

@@ -4,6 +4,7 @@ use Rattle.std.specs.Str.{is_utf8}
 use Rattle.serde_json.specs.Data.{Data, Items, no_items, item, Members, no_members, member}
 use Rattle.serde_json.specs.Read.{read}
 use Rattle.serde_json.specs.Find.{get, as_number, as_u64, as_integer, as_array, as_object, as_str}
+use Rattle.js_units.specs.Answers as answers
 use Rattle.js_units.specs.CodeUnits.{code_units}
 use Rattle.path_core.specs.Names.{is_among, is_name}
 use Rattle.path_core.specs.declared.bounds.BoundsRefusal.{BoundsRefusal}
@@ -19,19 +20,18 @@ abbrev pub ◌>>=◌ : {A B : Type 0} → Result A BoundsRefusal → (A → Resu
 (Ok x) >>= f = f x
 (Err e) >>= f = Err e
 
--- A refusal that a function returned is what reading gives, unless memory ran out.
-abbrev pub Fails : {Y : Type 0} → BoundsRefusal → Result Y BoundsRefusal → Type 0
-Fails refusal.NoMemory read = Unit {0}
-Fails refusal.Json read = read ≡ Err refusal.Json
-Fails refusal.Version read = read ≡ Err refusal.Version
-Fails (refusal.Field name) read = read ≡ Err (refusal.Field name)
-Fails (refusal.Range name) read = read ≡ Err (refusal.Range name)
-Fails (refusal.Alphabet name) read = read ≡ Err (refusal.Alphabet name)
+-- The refusal that says nothing of the bounds.
+abbrev pub is_memory : BoundsRefusal → Bool
+is_memory refusal.NoMemory = true
+is_memory refusal.Json = false
+is_memory refusal.Version = false
+is_memory (refusal.Field name) = false
+is_memory (refusal.Range name) = false
+is_memory (refusal.Alphabet name) = false
 
 -- What a function returned, seen by view, is what reading gives, unless memory ran out.
 abbrev pub Gives : {X Y : Type 0} → (X → Y) → Result X BoundsRefusal → Result Y BoundsRefusal → Type 0
-Gives see (Ok x) read = read ≡ Ok (see x)
-Gives see (Err e) read = Fails e read
+Gives see result read = answers.Gives is_memory (λ told. told) see result read
 
 -- Refused for the member of this name.
 abbrev pub field : {A : Type 0} → List ℕ → Result A BoundsRefusal

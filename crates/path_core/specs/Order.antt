@@ -1,22 +1,35 @@
 -- The input that stands behind another, name by name.
-use Rattle.std.specs.Prelude.{pos, ◌+ℤ◌, List, [], ◌∷◌, cond, int_lt, Option, Some, None}
+use Rattle.std.specs.Prelude.{ℕ, pos, ◌+ℤ◌, List, [], ◌∷◌, bytes_eq, cond, if◌then◌else◌, int_lt, Option, Some, None}
+use Rattle.std.specs.Option.{unwrap_or}
 use Rattle.path_core.specs.declared.bounds.Kind.{Kind}
 use Rattle.path_core.specs.declared.bounds.Kind.TheVariants as kinds
 use Rattle.path_core.specs.declared.bounds.Declared.{Declared}
 use Rattle.path_core.specs.declared.path.InputValue.{InputValue}
 use Rattle.path_core.specs.declared.path.InputValue.TheVariants as values
-use Rattle.path_core.specs.Inputs.{Values}
+use Rattle.path_core.specs.Inputs.{Values, values_of}
+
+-- the first of some values
+abbrev pub first_in : List InputValue → Option InputValue
+first_in [] = None
+first_in (v ∷ vs) = Some v
+
+-- the value behind a text among some values
+abbrev pub behind_text : List ℕ → List InputValue → Option InputValue
+behind_text t [] = None
+behind_text t (values.Int n ∷ vs) = behind_text t vs
+behind_text t (values.Text u ∷ vs) = if bytes_eq t u then first_in vs else behind_text t vs
 
 -- the value behind another, if there is one
 abbrev pub next_value : Kind → InputValue → Option InputValue
 next_value (kinds.Int low high) (values.Int n) = cond (int_lt n high) (Some (values.Int (n +ℤ pos 1))) None
 next_value (kinds.Int low high) (values.Text t) = None
-next_value (kinds.Text least most alphabet) v = None
+next_value (kinds.Text least most alphabet) (values.Int n) = None
+next_value (kinds.Text least most alphabet) (values.Text t) = behind_text t (values_of (kinds.Text least most alphabet))
 
--- the first value of an input of whole numbers
+-- the first value of an input; an input with none has the empty text
 abbrev pub first_value : Kind → InputValue
 first_value (kinds.Int low high) = values.Int low
-first_value (kinds.Text least most alphabet) = values.Int (pos 0)
+first_value (kinds.Text least most alphabet) = unwrap_or (first_in (values_of (kinds.Text least most alphabet))) (values.Text [])
 
 -- the first value of each name
 abbrev pub first_of : List Declared → Values

@@ -35,18 +35,20 @@ pub fn count(bounds: &Bounds) -> u128
     total
 }
 
-/// The first value of a kind. No file declares texts, so theirs is any value.
+/// The first value of a kind.
 fn first_value(kind: &Kind) -> InputValue
+    requires { IsRange kind.now }
     ensures { result ≡ first_value kind.now }
 {
     match kind {
         Kind::Int { low, .. } => InputValue::Int(*low),
-        Kind::Text { .. } => InputValue::Int(0),
+        Kind::Text { .. } => unreachable!(),
     }
 }
 
 /// The value behind another, if there is one.
 fn next_value(kind: &Kind, value: &InputValue) -> Option<InputValue>
+    requires { IsRange kind.now }
     ensures { result ≡ next_value kind.now value.now }
 {
     match (kind, value) {
@@ -63,13 +65,12 @@ fn next_value(kind: &Kind, value: &InputValue) -> Option<InputValue>
 
 /// The first value of each name.
 fn first_values(alloc: Global, declared: &[Declared]) -> Result<Items<InputValue>, NoMemory>
+    requires { All (λ d. IsRange d.kind) declared.now }
     ensures { IfOk result (λ values. values ≡ first_of declared.now) }
 {
     let mut values = Items::new(alloc);
-    let mut left = declared;
-    while let [first, rest @ ..] = left {
-        values.push(first_value(&first.kind))?;
-        left = rest;
+    for at in 0..declared.len() {
+        values.push(first_value(&declared[at].kind))?;
     }
     Ok(values)
 }
@@ -85,6 +86,7 @@ pub fn first_input(alloc: Global, bounds: &Bounds) -> Result<Input, NoMemory>
 
 /// Sets the first values of the names from a place on.
 fn reset(declared: &[Declared], from: usize, values: &mut Items<InputValue>)
+    requires ranges { All (λ d. IsRange d.kind) declared.now }
     requires each { length values.old ≡ length declared.now }
     requires place { from ≤ length declared.now }
     ensures { values.new ≡ take from values.old ++ first_of (drop from declared.now) }
@@ -97,7 +99,8 @@ fn reset(declared: &[Declared], from: usize, values: &mut Items<InputValue>)
 /// Sets the next values, by the last name that has one. Where there are none, all stay, and the
 /// answer is false.
 fn step(declared: &[Declared], values: &mut Items<InputValue>) -> bool
-    requires { length values.old ≡ length declared.now }
+    requires ranges { All (λ d. IsRange d.kind) declared.now }
+    requires each { length values.old ≡ length declared.now }
     ensures more { result ≡ is_some (next_of declared.now values.old) }
     ensures values { values.new ≡ stepped (next_of declared.now values.old) values.old }
 {

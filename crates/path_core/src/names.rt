@@ -2,59 +2,10 @@
 
 ghost use Rattle.std.specs.Prelude.{◌≡◌, map};
 ghost use Rattle.std.specs.List.{list_all};
-ghost use Rattle.path_core.specs.Names.{is_among, is_letter, is_name, is_name_byte, is_reserved, is_word};
+ghost use Rattle.js_units.specs.Characters.{is_name_part};
+ghost use Rattle.path_core.specs.Names.{is_among, is_name, is_reserved, is_word};
 
-/// The words that the language keeps for itself.
-const RESERVED: [&str; 48] = [
-    "arguments",
-    "await",
-    "break",
-    "case",
-    "catch",
-    "class",
-    "const",
-    "continue",
-    "debugger",
-    "default",
-    "delete",
-    "do",
-    "else",
-    "enum",
-    "eval",
-    "export",
-    "extends",
-    "false",
-    "finally",
-    "for",
-    "function",
-    "if",
-    "implements",
-    "import",
-    "in",
-    "instanceof",
-    "interface",
-    "let",
-    "new",
-    "null",
-    "package",
-    "private",
-    "protected",
-    "public",
-    "return",
-    "static",
-    "super",
-    "switch",
-    "this",
-    "throw",
-    "true",
-    "try",
-    "typeof",
-    "var",
-    "void",
-    "while",
-    "with",
-    "yield",
-];
+use js_units::{RESERVED_WORDS, is_name_part, is_name_start};
 
 /// Whether the text is one of the texts.
 #[tactic(auto, unfolding(crate::specs::Names::is_among))]
@@ -71,25 +22,17 @@ pub(crate) fn is_among(text: &str, texts: &[&str]) -> bool
     false
 }
 
-#[tactic(auto, unfolding(crate::specs::Names::reserved_words))]
+#[tactic(auto, unfolding(js_units::specs::Words::reserved_words))]
 fn is_reserved(name: &str) -> bool
     ensures { result ≡ is_reserved name.now }
 {
-    is_among(name, &RESERVED)
-}
-
-fn is_letter(byte: u8) -> bool
-    ensures { result ≡ is_letter byte }
-{
-    byte.is_ascii_alphabetic() || byte == b'_' || byte == b'$'
+    is_among(name, &RESERVED_WORDS)
 }
 
 fn are_name_bytes(bytes: &[u8]) -> bool
-    ensures { result ≡ list_all is_name_byte bytes.now }
+    ensures { result ≡ list_all is_name_part bytes.now }
 {
-    bytes
-        .iter()
-        .all(|byte| is_letter(*byte) || byte.is_ascii_digit())
+    bytes.iter().all(|byte| is_name_part(u16::from(*byte)))
 }
 
 fn is_word(text: &[u8]) -> bool
@@ -97,7 +40,7 @@ fn is_word(text: &[u8]) -> bool
 {
     match text {
         [] => false,
-        [first, rest @ ..] => is_letter(*first) && are_name_bytes(rest),
+        [first, rest @ ..] => is_name_start(u16::from(*first)) && are_name_bytes(rest),
     }
 }
 

@@ -1,4 +1,4 @@
--- What a single code unit is to a pattern (ECMA-262, sections 22.2.2.7.3, 22.2.2.9, 22.2.2.4.1 and 12.3).
+-- What a single code unit is to a pattern (ECMA-262, sections 22.2.2.7.3, 22.2.2.9 and 22.2.2.4.1).
 use Rattle.std.specs.Prelude.{ℕ, ◌+◌, ◌-◌, Bool, false, not, ◌&&◌, ◌||◌, if◌then◌else◌, ◌==◌, nat_le, List, [], ◌∷◌, Option, Some, None}
 use Rattle.std.specs.List.{list_any}
 use Rattle.re_ast.specs.declared.patterns.ClassSet.{ClassSet}
@@ -39,10 +39,6 @@ has_member i rs u = in_ranges rs u || fits_at (other_case i u) (in_ranges rs)
 -- a `^` is applied after the canonical units were compared
 abbrev pub in_class : Bool → ClassSet → ℕ → Bool
 in_class i c u = if c.negated then not (has_member i c.ranges u) else has_member i c.ranges u
-
--- LineTerminator (12.3)
-abbrev pub is_line_end : ℕ → Bool
-is_line_end u = u == 10 || u == 13 || u == 0x2028 || u == 0x2029
 
 -- WordCharacters (22.2.2.9.3)
 abbrev pub is_word : ℕ → Bool

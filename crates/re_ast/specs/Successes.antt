@@ -4,7 +4,8 @@ use Rattle.std.specs.Prelude.{ℕ, zero, suc, ◌+◌, ◌-◌, Bool, true, fals
 use Rattle.std.specs.List.{starts_with}
 use Rattle.re_ast.specs.declared.patterns.Flags.{Flags}
 use Rattle.re_ast.specs.Tree.{Tree, empty, unit, dot, class, line_start, line_end, word, not_word, group, back, look, repeated, seq, nothing, alt}
-use Rattle.re_ast.specs.Characters.{fits_at, is_alike, in_class, is_line_end, is_word}
+use Rattle.js_units.specs.Characters.{is_line_end}
+use Rattle.re_ast.specs.Characters.{fits_at, is_alike, in_class, is_word}
 
 -- from the first place up to the second
 abbrev pub Span : Type 0

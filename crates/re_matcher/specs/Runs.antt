@@ -2,7 +2,8 @@
 use Rattle.re_ast.specs.declared.patterns.Flags.{Flags}
 use Rattle.std.specs.Prelude.{ℕ, zero, suc, ◌+◌, ◌-◌, Bool, false, not, if◌then◌else◌, ◌==◌, nat_lt, List, [], ◌∷◌, ◌++◌, length, flat_map, map, Option, Some, None}
 use Rattle.re_ast.specs.Tree.{Tree, empty, unit, dot, class, line_start, line_end, word, not_word, group, back, look, repeated, seq, nothing, alt}
-use Rattle.re_ast.specs.Characters.{is_alike, is_line_end, in_class}
+use Rattle.js_units.specs.Characters.{is_line_end}
+use Rattle.re_ast.specs.Characters.{is_alike, in_class}
 use Rattle.re_ast.specs.Successes.{State, where_fits, read, again, captured, clear, capture, move_to, less, is_none_left, is_line_start, is_line_stop, is_boundary}
 
 abbrev pub Run : Type 0

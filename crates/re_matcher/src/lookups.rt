@@ -2,9 +2,11 @@
 
 ghost use Rattle.std.specs.Prelude.{◌≡◌, ◌+◌, ◌<◌, ◌≤◌, length, slice_get, slice_range, not, true};
 ghost use Rattle.std.specs.List.{starts_with};
-ghost use Rattle.re_ast.specs.Characters.{canonical, is_alike, other_case, fits_at, in_ranges, has_member, in_class, is_line_end, is_word};
+ghost use Rattle.js_units.specs.Characters.{is_line_end};
+ghost use Rattle.re_ast.specs.Characters.{canonical, is_alike, other_case, fits_at, in_ranges, has_member, in_class, is_word};
 ghost use Rattle.re_ast.specs.Successes.{has_at, is_line_start, is_line_stop, is_boundary, word_before};
 
+use js_units::is_line_end;
 use re_ast::{ClassSet, Flags};
 
 /// Under `i` small letters of ASCII become capitals (ECMA-262, section 22.2.2.7.3, Canonicalize).
@@ -47,19 +49,13 @@ pub fn is_unit(text: &[u16], flags: Flags, place: usize, unit: u16) -> bool
     }
 }
 
-fn ends_line(unit: u16) -> bool
-    ensures { result ≡ is_line_end unit }
-{
-    unit == 10 || unit == 13 || unit == 0x2028 || unit == 0x2029
-}
-
 pub fn is_dot(text: &[u16], place: usize) -> bool
     ensures value { result ≡ fits_at (slice_get text.now place) (λ v. not (is_line_end v)) }
     ensures within { result ≡ true → place < length text.now }
 {
     match text.get(place) {
         None => false,
-        Some(u) => !ends_line(*u),
+        Some(u) => !is_line_end(*u),
     }
 }
 
@@ -150,7 +146,7 @@ fn is_line_end_at(text: &[u16], place: usize) -> bool
 {
     match text.get(place) {
         None => false,
-        Some(u) => ends_line(*u),
+        Some(u) => is_line_end(*u),
     }
 }
 

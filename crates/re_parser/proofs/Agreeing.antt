@@ -4,7 +4,7 @@ use Rattle.std.specs.Prelude.{◌==◌, ◌&&◌, ◌||◌, not}
 use Rattle.std.specs.List.{list_all}
 use Rattle.std.proofs.lemmas.Bool.{and_parts}
 use Rattle.re_parser.specs.Agreement.{Agree, AgreeInside, is_question, is_caret}
-use Rattle.re_parser.specs.Characters.{is_digit}
+use Rattle.js_units.specs.Characters.{is_digit}
 use Rattle.re_parser.specs.Escapes.{starts, is_close, begins_range}
 use Rattle.re_parser.specs.Quantifiers.{braces_at, is_proper, lazy_by, braced_by, quantifier_at}
 use Rattle.re_parser.specs.declared.kinds.Braces.{Braces}

@@ -5,7 +5,7 @@ use Rattle.std.proofs.lemmas.List.{append-nil, length-append}
 use Rattle.std.proofs.lemmas.List.Folds.{list_all-append}
 use Rattle.std.proofs.lemmas.Bool.{leb-true, lt-leb, le-leb}
 use Rattle.re_ast.specs.declared.patterns.Node.{Node}
-use Rattle.re_parser.specs.Characters.{is_digit}
+use Rattle.js_units.specs.Characters.{is_digit}
 use Rattle.re_parser.specs.Escapes.{starts}
 use Rattle.re_parser.specs.Quantifiers.{digits_from}
 use Rattle.re_parser.specs.Grammar.{Begins, is_within, alt_of, IsDisjunction}

@@ -2,7 +2,7 @@
 use Rattle.std.proofs.Common.{◌≡◌, ℕ, Bool, true, false, cond, List, [], ◌∷◌, ◌++◌, length, Option, Some, None, refl, sym, ap, subst, ◌∙◌, append_assoc, arith, inl, inr}
 use Rattle.std.specs.Prelude.{◌==◌, not, nat_le, drop}
 use Rattle.std.proofs.lemmas.Bool.{and_parts, eqb-true}
-use Rattle.re_parser.specs.Characters.{is_digit}
+use Rattle.js_units.specs.Characters.{is_digit}
 use Rattle.re_parser.specs.Classes.{members_end, close_at}
 use Rattle.re_parser.specs.Escapes.{starts, is_close, begins_range, escaped_member_at, member_at, range_of, item_of, range_at, item_from, item_at, item_units}
 use Rattle.re_parser.specs.Faults.{member_fault, end_fault, range_fault, class_fault_by, class_fault}

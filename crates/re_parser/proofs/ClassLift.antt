@@ -4,7 +4,7 @@ use Rattle.std.specs.Prelude.{◌==◌}
 use Rattle.std.proofs.lemmas.Bool.{eqb-true, ne_eqb}
 use Rattle.re_ast.specs.declared.patterns.Node.{Node}
 use Rattle.re_parser.specs.Agreement.{Agree, is_caret}
-use Rattle.re_parser.specs.Characters.{is_digit}
+use Rattle.js_units.specs.Characters.{is_digit}
 use Rattle.re_parser.specs.Escapes.{starts}
 use Rattle.re_parser.specs.Pieces.{class_at, piece_at}
 use Rattle.re_parser.specs.Grammar.{Begins}

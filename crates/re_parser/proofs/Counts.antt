@@ -5,7 +5,7 @@ use Rattle.std.specs.List.{list_all}
 use Rattle.std.proofs.lemmas.Bool.{and_parts, ltb-true, ltb-false}
 use Rattle.std.proofs.lemmas.List.{append-nil, length-append}
 use Rattle.re_ast.specs.declared.patterns.Node.{Node}
-use Rattle.re_parser.specs.Characters.{is_digit}
+use Rattle.js_units.specs.Characters.{is_digit}
 use Rattle.re_parser.specs.Escapes.{starts}
 use Rattle.re_parser.specs.Quantifiers.{digits_from}
 use Rattle.re_parser.specs.Pieces.{piece_at}

@@ -2,7 +2,8 @@
 use Rattle.std.proofs.Common.{◌≡◌, ℕ, ◌+◌, Bool, true, false, cond, List, [], ◌∷◌, ◌++◌, Option, Some, None, refl, sym, ap, subst, ◌∙◌, append_assoc}
 use Rattle.std.specs.Prelude.{◌==◌, ◌&&◌, ◌*◌, not, drop}
 use Rattle.std.proofs.lemmas.Bool.{and_parts, eqb-true}
-use Rattle.re_parser.specs.Characters.{is_digit, is_hexadecimal, digit_value, is_sign, control_of}
+use Rattle.js_units.specs.Characters.{is_digit, is_hexadecimal, digit_value}
+use Rattle.re_parser.specs.Characters.{is_sign, control_of}
 use Rattle.re_parser.specs.Escapes.{starts, byte_at, unit_at, null_at, control_at, character_at, class_escape_of, one_of, many_or, escaped_member_at, member_at, is_close, begins_range, range_of, item_of, range_at, item_from, item_at}
 use Rattle.re_parser.specs.declared.kinds.ClassEscape.{ClassEscape}
 use Rattle.re_parser.specs.declared.kinds.ClassItem.{ClassItem}

@@ -4,7 +4,7 @@ use Rattle.std.specs.Prelude.{◌⊎◌, ◌==◌, nat_lt, Err}
 use Rattle.std.proofs.lemmas.Bool.{ltb-true, ltb-false, ne_eqb}
 use Rattle.std.proofs.lemmas.List.{append-nil, length-append}
 use Rattle.re_ast.specs.declared.patterns.Pattern.{Pattern}
-use Rattle.re_parser.specs.Characters.{is_digit, is_hexadecimal}
+use Rattle.js_units.specs.Characters.{is_digit, is_hexadecimal}
 use Rattle.re_parser.specs.Escapes.{starts, escaped_member_at}
 use Rattle.re_parser.specs.Pieces.{escape_at}
 use Rattle.re_parser.specs.Grammar.{HasShape}

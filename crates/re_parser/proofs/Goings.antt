@@ -3,7 +3,7 @@ use Rattle.std.proofs.Common.{◌≡◌, ℕ, ◌+◌, true, false, List, [], �
 use Rattle.re_ast.specs.declared.patterns.Node.{Node}
 use Rattle.re_ast.specs.declared.patterns.Node.TheVariants as node
 use Rattle.re_parser.specs.Agreement.{Agree}
-use Rattle.re_parser.specs.Characters.{is_digit}
+use Rattle.js_units.specs.Characters.{is_digit}
 use Rattle.re_parser.specs.Escapes.{starts}
 use Rattle.re_parser.specs.Quantifiers.{quantifier_at}
 use Rattle.re_parser.specs.Pieces.{piece_at, plain_at}

@@ -3,7 +3,8 @@ use Rattle.std.proofs.Common.{◌≡◌, ℕ, ◌+◌, ◌<◌, ◌≤◌, Bool,
 use Rattle.std.specs.Prelude.{◌⊎◌, ◌==◌, ◌&&◌, ◌||◌, not, nat_le, nat_lt}
 use Rattle.std.proofs.lemmas.Bool.{and_parts, eqb-true, ne_eqb, leb-true, le-leb}
 use Rattle.re_parser.specs.Agreement.{AgreeInside, is_caret}
-use Rattle.re_parser.specs.Characters.{is_letter, is_digit, is_sign, control_of}
+use Rattle.js_units.specs.Characters.{is_letter, is_digit}
+use Rattle.re_parser.specs.Characters.{is_sign, control_of}
 use Rattle.re_parser.specs.Classes.{IsMembers, members_end, members_more, NoMembers, close_at}
 use Rattle.re_parser.specs.Escapes.{starts, is_close, begins_range, character_at, class_escape_of, one_of, many_or, escaped_member_at, member_at, range_of, range_at, item_at, item_units}
 use Rattle.re_parser.specs.Pieces.{escape_at}

@@ -2,7 +2,8 @@
 use Rattle.std.proofs.Common.{◌≡◌, ℕ, ◌+◌, ◌<◌, ◌≤◌, Bool, true, false, cond, List, [], ◌∷◌, length, Option, Some, refl, sym, ap, subst, ◌∙◌, arith}
 use Rattle.std.specs.Prelude.{◌==◌, ◌&&◌, ◌*◌, nat_le, nat_lt}
 use Rattle.std.proofs.lemmas.Bool.{eqb-true, leb-true, leb-false, ltb-true, ltb-false}
-use Rattle.re_parser.specs.Characters.{is_hexadecimal, digit_value, is_sign, control_of}
+use Rattle.js_units.specs.Characters.{is_hexadecimal, digit_value}
+use Rattle.re_parser.specs.Characters.{is_sign, control_of}
 use Rattle.re_parser.specs.Escapes.{class_escape_of, escaped_member_at, range_at}
 use Rattle.re_parser.specs.Faults.{hexadecimal_value, byte_fault, unit_fault, end_fault}
 use Rattle.re_parser.specs.Places.{IsSyntax}

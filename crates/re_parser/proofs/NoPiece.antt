@@ -5,7 +5,7 @@ use Rattle.std.specs.List.{list_all}
 use Rattle.std.proofs.lemmas.Bool.{and_parts, eqb-true, ne_eqb}
 use Rattle.re_ast.specs.declared.patterns.Node.{Node}
 use Rattle.re_parser.specs.Agreement.{Agree}
-use Rattle.re_parser.specs.Characters.{is_digit}
+use Rattle.js_units.specs.Characters.{is_digit}
 use Rattle.re_parser.specs.Escapes.{starts}
 use Rattle.re_parser.specs.Quantifiers.{quantifier_at, braces_at}
 use Rattle.re_parser.specs.Pieces.{marked_group_at, group_at, class_at, escape_at, brace_piece, plain_at, piece_at}

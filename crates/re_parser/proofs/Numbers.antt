@@ -5,7 +5,7 @@ use Rattle.std.specs.List.{list_all}
 use Rattle.std.proofs.lemmas.Bool.{and_parts, eqb-true}
 use Rattle.std.proofs.lemmas.List.{length-append}
 use Rattle.re_parser.specs.Agreement.{Agree, is_question}
-use Rattle.re_parser.specs.Characters.{is_digit}
+use Rattle.js_units.specs.Characters.{is_digit}
 use Rattle.re_parser.specs.Escapes.{starts}
 use Rattle.re_parser.specs.Quantifiers.{digits_from, number_at, closed_by, most_by, behind_least, least_by, braces_at, is_proper, lazy_by, braced_by, quantifier_at}
 use Rattle.re_parser.specs.declared.kinds.Braces.{Braces}

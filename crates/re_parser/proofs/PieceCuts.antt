@@ -3,7 +3,7 @@ use Rattle.std.proofs.Common.{◌≡◌, ℕ, ◌+◌, Bool, true, false, cond, 
 use Rattle.std.specs.Prelude.{◌==◌, ◌&&◌, ◌*◌, ◌-◌, nat_le, min}
 use Rattle.std.proofs.lemmas.Bool.{and_parts}
 use Rattle.re_parser.specs.Agreement.{Agree, is_question, is_caret}
-use Rattle.re_parser.specs.Characters.{is_digit}
+use Rattle.js_units.specs.Characters.{is_digit}
 use Rattle.re_parser.specs.Escapes.{starts, character_at, class_escape_of}
 use Rattle.re_parser.specs.Quantifiers.{digits_from, braces_at}
 use Rattle.re_parser.specs.Pieces.{marked_group_at, group_at, class_at, character_piece, class_escape_or, back_piece, escape_at, brace_piece, plain_at, piece_at}

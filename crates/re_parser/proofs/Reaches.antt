@@ -3,7 +3,8 @@ use Rattle.std.proofs.Common.{◌≡◌, ℕ, ◌+◌, ◌<◌, ◌≤◌, Bool,
 use Rattle.std.specs.Prelude.{◌==◌, ◌&&◌, ◌||◌, ◌*◌, nat_le}
 use Rattle.std.proofs.lemmas.Bool.{lt-leb}
 use Rattle.std.proofs.lemmas.List.{length-append}
-use Rattle.re_parser.specs.Characters.{is_digit, is_hexadecimal, digit_value, is_letter, is_sign, control_of}
+use Rattle.js_units.specs.Characters.{is_digit, is_hexadecimal, digit_value, is_letter}
+use Rattle.re_parser.specs.Characters.{is_sign, control_of}
 use Rattle.re_parser.specs.Escapes.{starts, byte_at, unit_at, null_at, control_at, character_at, class_escape_of, one_of, many_or, escaped_member_at}
 use Rattle.re_parser.specs.Quantifiers.{digits_from}
 use Rattle.re_parser.specs.Pieces.{character_piece, class_escape_or, back_piece, escape_at}

@@ -4,7 +4,8 @@ use Rattle.std.specs.Prelude.{◌==◌, ◌&&◌, nat_le, nat_lt}
 use Rattle.std.proofs.lemmas.Bool.{eqb-true, ne_eqb, le-ltb, lt-leb}
 use Rattle.re_ast.specs.declared.patterns.Node.{Node}
 use Rattle.re_parser.specs.Agreement.{Agree, is_question}
-use Rattle.re_parser.specs.Characters.{is_digit, is_sign, control_of}
+use Rattle.js_units.specs.Characters.{is_digit}
+use Rattle.re_parser.specs.Characters.{is_sign, control_of}
 use Rattle.re_parser.specs.Escapes.{starts, class_escape_of, character_at}
 use Rattle.re_parser.specs.Quantifiers.{quantifier_at}
 use Rattle.re_parser.specs.Pieces.{marked_group_at, group_at, escape_at, plain_at, piece_at}

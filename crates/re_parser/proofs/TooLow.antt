@@ -3,7 +3,8 @@ use Rattle.std.proofs.Common.{◌≡◌, ℕ, ◌+◌, ◌<◌, ◌≤◌, Bool,
 use Rattle.std.specs.Prelude.{◌==◌, ◌&&◌, ◌||◌, ◌*◌, ◌-◌, nat_le}
 use Rattle.std.proofs.lemmas.Bool.{lt-leb, leb-true, le-leb}
 use Rattle.std.proofs.lemmas.List.{length-append}
-use Rattle.re_parser.specs.Characters.{is_digit, is_hexadecimal, digit_value, is_sign, control_of}
+use Rattle.js_units.specs.Characters.{is_digit, is_hexadecimal, digit_value}
+use Rattle.re_parser.specs.Characters.{is_sign, control_of}
 use Rattle.re_parser.specs.Escapes.{starts, byte_at, unit_at, null_at, control_at, character_at, class_escape_of, one_of, many_or, escaped_member_at, member_at, range_at}
 use Rattle.re_parser.specs.Faults.{hexadecimal_value}
 use Rattle.re_parser.specs.Places.{IsSyntax}

@@ -7,7 +7,8 @@ use Rattle.re_parser.specs.Pieces.{piece_at}
 use Rattle.re_parser.specs.Grammar.{Begins, seq_of, assertion_node, begun}
 use Rattle.re_parser.specs.Places.{IsMarkDue}
 use Rattle.re_parser.specs.Faults.{piece_fault}
-use Rattle.re_parser.specs.Reading.{StepBacks, with_bar, with_term, with_atom, outer, closed_in, closed_by, opened_by, opened_at, Spot, Stuck, Steps, Turns, TurnFault, Faults, Fails, Gives, ClassTurns, GoesOn, StopsAt, FaultOf, MembersGo, MembersStop, NoMark, turned}
+use Rattle.js_units.specs.Answers.{Fails}
+use Rattle.re_parser.specs.Reading.{StepBacks, with_bar, with_term, with_atom, outer, closed_in, closed_by, opened_by, opened_at, Spot, Stuck, Steps, Turns, TurnFault, Faults, is_memory, Gives, ClassTurns, GoesOn, StopsAt, FaultOf, MembersGo, MembersStop, NoMark, turned}
 use Rattle.re_parser.specs.declared.kinds.Atom.{Atom}
 use Rattle.re_parser.specs.declared.kinds.Atom.TheVariants as atom
 use Rattle.re_parser.specs.declared.kinds.GroupKind.{GroupKind}
@@ -33,13 +34,13 @@ faults_seen X Y f P (Ok x) h = tt
 faults_seen X Y f P (Err e) h = h
 
 -- where something is read, only memory is wanting
-fails_some : (r : Reader) (units : List ℕ) (s : Spot) (e : Fault) → Fails e (Some s) → At r units e
+fails_some : (r : Reader) (units : List ℕ) (s : Spot) (e : Fault) → Fails (is_memory e) (Some s) None → At r units e
 fails_some r units s fault.NoMemory h = tt
 fails_some r units s (fault.Syntax left) h = absurd cc
 fails_some r units s (fault.BadEscape left) h = absurd cc
 fails_some r units s (fault.TooManyGroups left) h = absurd cc
 
-turned_at : (r : Reader) (units : List ℕ) (p : Piece) (rest : List ℕ) (e : Fault) → is_class p ≡ false → Begins units p rest → Fails e (turned r units p rest) → TurnFault r units p rest e → At r units e
+turned_at : (r : Reader) (units : List ℕ) (p : Piece) (rest : List ℕ) (e : Fault) → is_class p ≡ false → Begins units p rest → Fails (is_memory e) (turned r units p rest) None → TurnFault r units p rest e → At r units e
 turned_at r units piece.Bar rest e c b h t = fails_some r units _ e h
 turned_at r units piece.Close rest e c b h t = close_faults r units rest e b t
 turned_at r units (piece.Open kind) rest e c b h t = open_faults r units rest kind e b t

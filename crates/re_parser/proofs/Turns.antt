@@ -5,7 +5,8 @@ use Rattle.re_ast.specs.declared.patterns.Node.TheVariants as node
 use Rattle.re_parser.specs.Classes.{IsMembers, Lacks}
 use Rattle.re_parser.specs.Pieces.{piece_at}
 use Rattle.re_parser.specs.Grammar.{Begins, alt_of, assertion_node, atom_node, quantified, closed, begun}
-use Rattle.re_parser.specs.Reading.{Spot, Left, Whole, Same, Stuck, IsClassTurn, turned, closed_in, closed_by, Fails, outer, with_term, with_bar, with_back, with_atom, opened_by, opened_at, with_class, are_bound}
+use Rattle.js_units.specs.Answers.{Fails}
+use Rattle.re_parser.specs.Reading.{Spot, Left, Whole, Same, Stuck, IsClassTurn, turned, closed_in, closed_by, is_memory, outer, with_term, with_bar, with_back, with_atom, opened_by, opened_at, with_class, are_bound}
 use Rattle.re_parser.specs.declared.kinds.GroupKind.{GroupKind}
 use Rattle.re_parser.specs.declared.kinds.GroupKind.TheVariants as group
 use Rattle.re_parser.specs.declared.kinds.Atom.{Atom}
@@ -128,7 +129,7 @@ class_step r units inside negated ranges mid b h =
 step_is : (r : Reader) (units : List ℕ) (s t : Spot) → IsStep r units t → Some t ≡ Some s → IsStep r units s
 step_is r units s t h e = let same : t ≡ s = cc in subst (λ (q : Spot). IsStep r units q) same h
 
-pub fails_lacks : (T Y : Type 0) (read : Option Y) (e : Fault) → Fails e read → (read ≡ None → T) → Lacks T e
+pub fails_lacks : (T Y : Type 0) (read : Option Y) (e : Fault) → Fails (is_memory e) read None → (read ≡ None → T) → Lacks T e
 fails_lacks T Y read fault.NoMemory h f = tt
 fails_lacks T Y read (fault.Syntax left) h f = f h
 fails_lacks T Y read (fault.BadEscape left) h f = f h

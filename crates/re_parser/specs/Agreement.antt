@@ -1,6 +1,6 @@
 -- This project's own: units that what stands in front of them can't tell apart.
 use Rattle.std.specs.Prelude.{◌≡◌, ℕ, ◌==◌, Bool, false, List, ◌++◌, None}
-use Rattle.re_parser.specs.Characters.{is_digit}
+use Rattle.js_units.specs.Characters.{is_digit}
 use Rattle.re_parser.specs.Escapes.{starts, begins_range}
 use Rattle.re_parser.specs.Quantifiers.{quantifier_at, braces_at}
 

@@ -1,6 +1,7 @@
 -- Escapes and the members of classes (ECMA-262, sections 22.2.1, 22.2.2.9 and B.1.2).
 use Rattle.std.specs.Prelude.{ℕ, ◌+◌, ◌*◌, ◌-◌, ◌==◌, ◌&&◌, not, nat_le, nat_lt, Bool, false, List, [], ◌∷◌, ◌++◌, drop, Option, Some, None, if◌then◌else◌}
-use Rattle.re_parser.specs.Characters.{is_digit, is_hexadecimal, digit_value, is_sign, control_of}
+use Rattle.js_units.specs.Characters.{is_digit, is_hexadecimal, digit_value}
+use Rattle.re_parser.specs.Characters.{is_sign, control_of}
 use Rattle.re_parser.specs.declared.kinds.ClassEscape.{ClassEscape}
 use Rattle.re_parser.specs.declared.kinds.ClassEscape.TheVariants as escape
 use Rattle.re_parser.specs.declared.kinds.Member.{Member}

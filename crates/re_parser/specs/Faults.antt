@@ -1,6 +1,6 @@
 -- This project's own: the fault where nothing is read in front of units, with the number of units from its place on.
 use Rattle.std.specs.Prelude.{ℕ, ◌+◌, ◌*◌, ◌==◌, ◌&&◌, not, nat_le, nat_lt, Bool, List, [], ◌∷◌, length, drop, Option, Some, None, if◌then◌else◌}
-use Rattle.re_parser.specs.Characters.{is_hexadecimal, digit_value}
+use Rattle.js_units.specs.Characters.{is_hexadecimal, digit_value}
 use Rattle.re_parser.specs.Escapes.{starts, member_at}
 use Rattle.re_parser.specs.Agreement.{is_question}
 use Rattle.re_parser.specs.declared.kinds.Member.{Member}

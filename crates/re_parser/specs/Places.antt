@@ -1,7 +1,7 @@
 -- Where a body is refused, and why (this project's own). Of `Goes` and `Stops` the one says that some body that has a shape begins with these units, and the other that none does; `Due` says that the mark of a group is due behind them.
 use Rattle.std.specs.Prelude.{◌≡◌, ◌≤◌, ◌<◌, ◌⊎◌, ℕ, ◌==◌, ◌||◌, Bool, false, List, [], ◌∷◌, ◌++◌, length, Some, None, Result, Err}
 use Rattle.re_ast.specs.declared.patterns.Node.{Node}
-use Rattle.re_parser.specs.Characters.{is_digit}
+use Rattle.js_units.specs.Characters.{is_digit}
 use Rattle.re_parser.specs.Escapes.{starts, escaped_member_at}
 use Rattle.re_parser.specs.Pieces.{escape_at}
 use Rattle.re_parser.specs.Quantifiers.{digits_from}

@@ -1,6 +1,6 @@
 -- Quantifiers (ECMA-262, sections 22.2.1 and B.1.2). No number is above 65,535: that limit is this project's own.
 use Rattle.std.specs.Prelude.{ℕ, ◌+◌, ◌*◌, ◌-◌, ◌==◌, ◌&&◌, nat_le, min, Bool, true, false, List, [], ◌∷◌, Option, Some, None, if◌then◌else◌}
-use Rattle.re_parser.specs.Characters.{is_digit}
+use Rattle.js_units.specs.Characters.{is_digit}
 use Rattle.re_parser.specs.Escapes.{starts}
 use Rattle.re_parser.specs.declared.kinds.Quantifier.{Quantifier}
 use Rattle.re_parser.specs.declared.kinds.Braces.{Braces}

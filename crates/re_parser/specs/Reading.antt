@@ -1,6 +1,7 @@
 -- This project's own: patterns read piece by piece. A reader holds what was read; `Left` says which units lead on from it to a whole pattern.
 use Rattle.std.specs.Prelude.{◌≡◌, ◌↔◌, ◌⊎◌, ◌<◌, ◌≤◌, ℕ, ◌+◌, nat_lt, Bool, true, false, List, [], ◌∷◌, ◌++◌, length, Option, Some, None, Result, Ok, Err, if◌then◌else◌}
 use Rattle.std.specs.List.{list_all}
+use Rattle.js_units.specs.Answers as answers
 use Rattle.re_ast.specs.declared.patterns.Node.{Node}
 use Rattle.re_ast.specs.declared.patterns.Node.TheVariants as node
 use Rattle.re_parser.specs.Agreement.{Agree, is_caret}
@@ -20,14 +21,16 @@ use Rattle.re_parser.specs.declared.reader.Backreference.{Backreference}
 use Rattle.re_parser.specs.declared.refusal.Fault.{Fault}
 use Rattle.re_parser.specs.declared.refusal.Fault.TheVariants as fault
 
--- what a function returned, seen by `see`, is what was to be read, unless memory ran out
-abbrev pub Fails : {Y : Type 0} → Fault → Option Y → Type 0
-Fails fault.NoMemory read = Unit {0}
-Fails _ read = read ≡ None
+-- the fault that says nothing of the units
+abbrev pub is_memory : Fault → Bool
+is_memory fault.NoMemory = true
+is_memory (fault.Syntax left) = false
+is_memory (fault.BadEscape left) = false
+is_memory (fault.TooManyGroups left) = false
 
+-- what a function returned, seen by `see`, is what was to be read, unless memory ran out
 abbrev pub Gives : {X Y : Type 0} → (X → Y) → Result X Fault → Option Y → Type 0
-Gives see (Ok x) read = read ≡ Some (see x)
-Gives see (Err e) read = Fails e read
+Gives see result read = answers.Gives is_memory answers.untold see result read
 
 -- a reader, and the units behind what it has read
 abbrev pub Spot : Type 0

@@ -1,7 +1,9 @@
-//! Classes of code units.
+//! Classes of code units that patterns alone have.
 
-ghost use Rattle.std.specs.Prelude.{◌≡◌, ◌<◌, true};
-ghost use Rattle.re_parser.specs.Characters.{is_letter, is_digit, is_hexadecimal, digit_value, is_sign, control_of};
+ghost use Rattle.std.specs.Prelude.{◌≡◌};
+ghost use Rattle.re_parser.specs.Characters.{is_sign, control_of};
+
+use js_units::{is_digit, is_letter};
 
 pub const BACKSLASH: u16 = 0x5c;
 
@@ -16,43 +18,6 @@ pub const CLOSE_BRACE: u16 = 0x7d;
 pub const QUESTION: u16 = 0x3f;
 
 const UNDERSCORE: u16 = 0x5f;
-
-#[tactic(auto, unfolding(crate::specs::Characters::is_letter))]
-fn is_letter(unit: u16) -> bool
-    ensures { result ≡ is_letter unit }
-{
-    (0x41 <= unit && unit <= 0x5a) || (0x61 <= unit && unit <= 0x7a)
-}
-
-#[tactic(auto, unfolding(crate::specs::Characters::is_digit))]
-pub fn is_digit(unit: u16) -> bool
-    ensures { result ≡ is_digit unit }
-{
-    0x30 <= unit && unit <= 0x39
-}
-
-#[tactic(auto, unfolding(crate::specs::Characters::is_hexadecimal))]
-pub fn is_hexadecimal(unit: u16) -> bool
-    ensures { result ≡ is_hexadecimal unit }
-{
-    is_digit(unit) || (0x41 <= unit && unit <= 0x46) || (0x61 <= unit && unit <= 0x66)
-}
-
-/// What a hexadecimal digit stands for.
-#[tactic(auto, unfolding(crate::specs::Characters::digit_value, crate::specs::Characters::is_hexadecimal, crate::specs::Characters::is_digit))]
-pub fn digit_value(unit: u16) -> u16
-    requires { is_hexadecimal unit ≡ true }
-    ensures value { result ≡ digit_value unit }
-    ensures small { result < 16 }
-{
-    if unit <= 0x39 {
-        return unit - 0x30;
-    }
-    if unit <= 0x46 {
-        return unit - 0x37;
-    }
-    unit - 0x57
-}
 
 /// An ASCII unit that is no letter, no digit and no `_`.
 #[tactic(auto, unfolding(crate::specs::Characters::is_sign))]

@@ -5,10 +5,9 @@ ghost use Rattle.std.specs.Prelude.{◌≡◌, ◌<◌, ◌≤◌, length, drop,
 ghost use Rattle.std.specs.Option.{option_map};
 ghost use Rattle.re_parser.specs.Escapes.{starts, byte_at, unit_at, null_at, character_at, class_escape_of, escaped_member_at, member_at, begins_range, range_of, item_at};
 
-use crate::characters::{
-    BACKSLASH, CLOSE_BRACKET, HYPHEN, control_of, digit_value, is_digit, is_hexadecimal, is_sign,
-};
+use crate::characters::{BACKSLASH, CLOSE_BRACKET, HYPHEN, control_of, is_sign};
 use crate::kinds::{ClassEscape, ClassItem, Member};
+use js_units::{digit_value, is_digit, is_hexadecimal};
 
 const LOWER_B: u16 = 0x62;
 

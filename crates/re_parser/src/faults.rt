@@ -6,12 +6,11 @@ ghost use Rattle.re_parser.specs.Escapes.{starts, member_at};
 ghost use Rattle.re_parser.specs.Faults.{from_close, piece_fault, member_fault, hexadecimal_value, byte_fault, unit_fault, escaped_end_fault, end_fault, range_fault, class_fault};
 ghost use Rattle.re_parser.specs.declared.refusal.Fault.TheVariants as fault;
 
-use crate::characters::{
-    BACKSLASH, CLOSE_BRACE, OPEN_BRACE, QUESTION, digit_value, is_hexadecimal,
-};
+use crate::characters::{BACKSLASH, CLOSE_BRACE, OPEN_BRACE, QUESTION};
 use crate::escapes::{behind_first, member};
 use crate::kinds::Member;
 use crate::refusal::Fault;
+use js_units::{digit_value, is_hexadecimal};
 
 const OPEN_PARENTHESIS: u16 = 0x28;
 

@@ -3,11 +3,12 @@
 
 ghost use Rattle.std.specs.Prelude.{◌≡◌, ◌<◌, ◌≤◌, ◌+◌, ◌*◌, ◌-◌, min, true, length, Some, IfSome};
 ghost use Rattle.std.specs.Option.{option_map};
-ghost use Rattle.re_parser.specs.Characters.{is_digit};
+ghost use Rattle.js_units.specs.Characters.{is_digit};
 ghost use Rattle.re_parser.specs.Quantifiers.{digits_from, number_at, closed_by, behind_least, braces_at, is_most, is_proper, lazy_by, braced_by, quantifier_at};
 
-use crate::characters::{CLOSE_BRACE, OPEN_BRACE, QUESTION, is_digit};
+use crate::characters::{CLOSE_BRACE, OPEN_BRACE, QUESTION};
 use crate::kinds::{Braces, Quantifier};
+use js_units::is_digit;
 
 const PLUS: u16 = 0x2b;
 
@@ -38,7 +39,7 @@ pub fn digits(units: &[u16]) -> (u32, &[u16])
 }
 
 /// A number with one digit more.
-#[tactic(auto, unfolding(crate::specs::Characters::is_digit))]
+#[tactic(auto, unfolding(js_units::specs::Characters::is_digit))]
 fn next_value(value: u32, digit: u16) -> u32
     requires digit { is_digit digit ≡ true }
     requires small { value ≤ 65536 }

@@ -7,7 +7,8 @@ use Rattle.small_ast.specs.declared.tree.Test.{Test}
 use Rattle.small_parser.specs.declared.token.Token.{Token}
 use Rattle.small_parser.specs.declared.token.TokenKind.TheVariants as k
 use Rattle.small_parser.specs.Grammar.{mark, Phrase, Phrases, IsTest, IsNothing, IsBlock, IsAsking, IsIf, IsIfElse, IsStmt, begins_else}
-use Rattle.small_parser.specs.Reading.{Fails, ◌>>=◌, Parse, test_at, closes, many, turns, else_at, asked_at, if_at, block_at, stmt_step, stmt_at}
+use Rattle.js_units.specs.Answers.{Fails}
+use Rattle.small_parser.specs.Reading.{is_memory, ◌>>=◌, Parse, test_at, closes, many, turns, else_at, asked_at, if_at, block_at, stmt_step, stmt_at}
 use Rattle.small_parser.specs.declared.stop.Stop.{Stop}
 use Rattle.small_parser.specs.declared.stop.Stop.TheVariants as stop
 use Rattle.small_parser.proofs.Soundness.{stmt_sound}
@@ -174,6 +175,6 @@ unfolding many
 many_refused p found ts apart e = rw (apart, e) refl
 
 -- a refusal is handed on
-pub fails_along : {Y Z : Type 0} (e : Stop) (r : Option Y) (q : Option Z) → (r ≡ None → q ≡ None) → Fails e r → Fails e q
+pub fails_along : {Y Z : Type 0} (e : Stop) (r : Option Y) (q : Option Z) → (r ≡ None → q ≡ None) → Fails (is_memory e) r None → Fails (is_memory e) q None
 fails_along stop.NoMemory r q f h = tt
 fails_along (stop.Refused left) r q f h = f h

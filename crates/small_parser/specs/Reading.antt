@@ -1,5 +1,6 @@
 -- Reading statements from left to right.
 use Rattle.std.specs.Prelude.{◌≡◌, ℕ, zero, suc, List, [], ◌∷◌, ◌++◌, length, Bool, true, false, cond, Option, Some, None, option_and_then, Result, Ok, Err}
+use Rattle.js_units.specs.Answers as answers
 use Rattle.small_ast.specs.declared.tree.Comparison.{Comparison}
 use Rattle.small_ast.specs.declared.tree.Side.{Side}
 use Rattle.small_ast.specs.declared.tree.Stmt.{Stmt}
@@ -20,14 +21,14 @@ infixl 10 ◌>>=◌
 abbrev pub ◌>>=◌ : {A B : Type 0} → Option A → (A → Option B) → Option B
 o >>= f = option_and_then f o
 
--- what a function returned, seen by view, is what reading gives, unless memory ran out
-abbrev pub Fails : {Y : Type 0} → Stop → Option Y → Type 0
-Fails stop.NoMemory read = Unit {0}
-Fails (stop.Refused left) read = read ≡ None
+-- the stop that says nothing of the tokens
+abbrev pub is_memory : Stop → Bool
+is_memory stop.NoMemory = true
+is_memory (stop.Refused left) = false
 
+-- what a function returned, seen by view, is what reading gives, unless memory ran out
 abbrev pub Gives : {X Y : Type 0} → (X → Y) → Result X Stop → Option Y → Type 0
-Gives see (Ok x) read = read ≡ Some (see x)
-Gives see (Err e) read = Fails e read
+Gives see result read = answers.Gives is_memory answers.untold see result read
 
 abbrev pub Parse : Type 0 → Type 0
 Parse A = List Token → Option (A × List Token)

@@ -1,5 +1,5 @@
 use Rattle.std.proofs.Common.{◌≡◌, length}
-use Rattle.js_lexer.specs.Classes.{is_name_part}
+use Rattle.js_units.specs.Characters.{is_name_part}
 use Rattle.js_lexer.specs.Runs.{skip_while}
 use Rattle.js_lexer.proofs.names.after_parts.Given as goal
 

@@ -5,7 +5,10 @@ use Rattle.path_core.proofs.inputs.next_input.Goals as goal
 pub step-requires : goal.step-requires
 step-requires c =
     let w = c.requires.within in
-    rw c.as_slice.ensures (within_length c.args.bounds.now.inputs w.0 c.args.input.now.values w.1 w.2)
+    rw c.as_slice.ensures (record {
+      ranges = c.requires.ranges;
+      each = within_length c.args.bounds.now.inputs w.0 c.args.input.now.values w.1 w.2;
+    })
 
 pub returns-clause-more : goal.returns-clause-more
 returns-clause-more c = λ ok.

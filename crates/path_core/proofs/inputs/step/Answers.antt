@@ -8,7 +8,7 @@ use Rattle.path_core.proofs.inputs.step.Goals as goal
 found : (c : goal.After-reset) → next_of c.args.declared.now c.args.values.now ≡ Some (take (c.loop-at.at - 1) c.args.values.now ++ c.in-Some.next ∷ first_of (drop (c.loop-at.at - 1 + 1) c.args.declared.now))
 found c =
     let there = c.index-as_slice-at.is ∙ ap (λ (xs : Values). slice_index_or xs (c.loop-at.at - 1) c.index-as_slice-at.result) (c.as_slice.ensures ∙ c.loop-at.invariant.unchanged) in
-    found_at c.args.declared.now c.args.values.now (c.loop-at.at - 1) c.loop-at.at (c.loop-at.at - 1 + 1) c.index-declared-at.result c.index-as_slice-at.result c.in-Some.next (omega arith) (omega arith) (omega arith) c.requires c.loop-at.invariant.none there c.in-Some.ensures
+    found_at c.args.declared.now c.args.values.now (c.loop-at.at - 1) c.loop-at.at (c.loop-at.at - 1 + 1) c.index-declared-at.result c.index-as_slice-at.result c.in-Some.next (omega arith) (omega arith) (omega arith) c.requires.each c.loop-at.invariant.none there c.in-Some.ensures
 
 pub returns-in-Some-clause-more : goal.returns-in-Some-clause-more
 returns-in-Some-clause-more c = rw (found c) refl
