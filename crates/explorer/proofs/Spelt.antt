@@ -26,23 +26,25 @@ and_true true true e f = refl
 and_true true false e f = absurd cc
 and_true false b e f = absurd cc
 
-letter_ascii : (b : ℕ) → is_letter b ≡ true → is_ascii b ≡ true
-letter_ascii b e = grind (arith, nat_tests)
+start_ascii : (b : ℕ) → is_name_start b ≡ true → is_ascii b ≡ true
+unfolding is_name_start is_letter
+start_ascii b e = grind (arith, nat_tests)
 
-name_byte_ascii : (b : ℕ) → is_name_byte b ≡ true → is_ascii b ≡ true
-name_byte_ascii b e = grind (arith, nat_tests)
+part_ascii : (b : ℕ) → is_name_part b ≡ true → is_ascii b ≡ true
+unfolding is_name_part is_name_start is_letter is_digit
+part_ascii b e = grind (arith, nat_tests)
 
-bytes_ascii : (bs : List ℕ) → list_all is_name_byte bs ≡ true → list_all is_ascii bs ≡ true
+bytes_ascii : (bs : List ℕ) → list_all is_name_part bs ≡ true → list_all is_ascii bs ≡ true
 bytes_ascii [] e = refl
 bytes_ascii (b ∷ bs) e =
-    let h = both_true (is_name_byte b) (list_all is_name_byte bs) e in
-    and_true (is_ascii b) (list_all is_ascii bs) (name_byte_ascii b h.0) (bytes_ascii bs h.1)
+    let h = both_true (is_name_part b) (list_all is_name_part bs) e in
+    and_true (is_ascii b) (list_all is_ascii bs) (part_ascii b h.0) (bytes_ascii bs h.1)
 
 word_ascii : (name : List ℕ) → is_word name ≡ true → list_all is_ascii name ≡ true
 word_ascii [] e = refl
 word_ascii (b ∷ bs) e =
-    let h = both_true (is_letter b) (list_all is_name_byte bs) e in
-    and_true (is_ascii b) (list_all is_ascii bs) (letter_ascii b h.0) (bytes_ascii bs h.1)
+    let h = both_true (is_name_start b) (list_all is_name_part bs) e in
+    and_true (is_ascii b) (list_all is_ascii bs) (start_ascii b h.0) (bytes_ascii bs h.1)
 
 name_ascii : (d : Declared) → IsAccepted d → list_all is_ascii d.name ≡ true
 name_ascii d h = word_ascii d.name (both_true (is_word d.name) _ h.name).0

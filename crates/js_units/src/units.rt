@@ -1,10 +1,15 @@
 //! A string of the language: any list of 16-bit code units (ECMA-262, section 6.1.4).
 
 ghost use Rattle.std.specs.Prelude.{◌≡◌, ◌<◌, [], ◌∷◌, ◌++◌, length, slice_index, bytes_eq, IfOk, OnOk, OnErr, IsTrue, ◌↔◌};
+ghost use Rattle.std.proofs.Common.{ap};
+ghost use Rattle.std.specs.Cmp.{partial_equiv_from_equiv};
+ghost use Rattle.std.specs.Cmp.Lexicographic.{bytes_decides, nat_list_eq_equiv};
+ghost use Rattle.std.specs.Hash as fed;
 ghost use Rattle.js_units.specs.CodeUnits.{encode, code_units};
 
 use crate::memory::NoMemory;
 use std::alloc::Global;
+use std::hash::{Hash, Hasher};
 use std::marker::Model;
 
 /// A string, which contracts see as the list of its code units.
@@ -38,6 +43,32 @@ impl Model for Units {
     ghost Value = { List ℕ };
 
     ghost view = { λ u. u.units.items };
+}
+
+// Equal are strings with the same units.
+impl PartialEq for Units {
+    ghost eq = { bytes_eq };
+
+    ghost laws = { partial_equiv_from_equiv nat_list_eq_equiv };
+
+    fn eq(&self, other: &Units) -> bool {
+        self.units.as_slice() == other.units.as_slice()
+    }
+}
+
+impl Eq for Units {
+    ghost laws = { nat_list_eq_equiv };
+}
+
+// A string is the key of a map.
+impl Hash for Units {
+    ghost hash_input = { fed.slice fed.u16 };
+
+    ghost respects_eq = { λ a b h. ap (fed.slice fed.u16) ((bytes_decides a b).0 h) };
+
+    fn hash<H: Hasher>(&self, state: &mut H) {
+        self.units.hash(state);
+    }
 }
 
 impl Units {
@@ -138,7 +169,7 @@ impl Units {
     pub fn equals(&self, other: &Units) -> bool
         ensures { result ≡ bytes_eq self.now other.now }
     {
-        self.units.as_slice() == other.units.as_slice()
+        self == other
     }
 
     /// The units, in order.

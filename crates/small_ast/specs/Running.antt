@@ -21,13 +21,11 @@ pub data Item : Type 0 where
   passed : End → Item
   made : Event → Item
 
--- how a part of a script ended (ECMA-262, section 6.2.4, the Completion Record), or with which end the whole run stopped there
+-- how a part of a script ended (ECMA-262, section 6.2.4, the Completion Record), or with which end the whole run stopped there.
+-- The small language has no `break`, `continue` and `return`
 pub data Completion : Type 0 where
   normal : Completion
   value : Value → Completion
-  breaks : Completion
-  continues : Completion
-  returns : Value → Completion
   throws : ℕ → Thrown → Completion
   stops : End → Completion
 
@@ -102,9 +100,9 @@ leaves site why env at = done at (stops (Left site why (env.turns - at.turns) at
 -- the end of a run whose script ended so; nothing but these leaves a script
 abbrev pub end_of : Completion → End
 end_of normal = Done
-end_of (stops end) = end
+end_of (value v) = Done
 end_of (throws site what) = Threw site what
-end_of _ = Done
+end_of (stops end) = end
 
 -- the events among the items
 abbrev pub events_of : List Item → List Event
