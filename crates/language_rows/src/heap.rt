@@ -14,7 +14,10 @@ const ORDERS: [(&str, &str); 8] = [
     ("4294967295,4294967294", "4294967294,4294967295"),
     ("-1,1.5,1", "1,-1,1.5"),
     (",2,", "2,"),
-    ("b,10,01,2,4294967295,0,a,4294967294,b", "0,2,10,4294967294,b,01,4294967295,a"),
+    (
+        "b,10,01,2,4294967295,0,a,4294967294,b",
+        "0,2,10,4294967294,b,01,4294967295,a",
+    ),
 ];
 
 /// Sets each key to the number of those before it.
@@ -87,12 +90,14 @@ fn has_items(alloc: Global) -> Result<bool, NoMemory> {
     heap.set_item(id, 1, 5);
     let first = heap.shift_item(id);
     let last = heap.pop_item(id);
-    Ok(first == Some(7)
-        && last == Some(9)
-        && heap.items(id) == 1
-        && heap.item(id, 0).copied() == Some(5)
-        && heap.item(id, 1).copied() == None
-        && matches!(heap.class(id), Class::Array))
+    Ok(
+        first == Some(7)
+            && last == Some(9)
+            && heap.items(id) == 1
+            && heap.item(id, 0).copied() == Some(5)
+            && heap.item(id, 1).copied() == None
+            && matches!(heap.class(id), Class::Array),
+    )
 }
 
 /// A cell has no value before its initialisation.
@@ -107,8 +112,7 @@ fn has_cells(alloc: Global) -> Result<bool, NoMemory> {
 #[test]
 fn heaps(rt: HostRuntime) -> Result<(), Fail> {
     let alloc = rt.alloc();
-    assert!(
-        rt;
+    assert!(rt;
         wrong_order(alloc)? == None && has_values(alloc)? && has_items(alloc)? && has_cells(alloc)?
     );
     Ok(())
