@@ -298,7 +298,7 @@ Shape ts body = IsStmts (λ n. Unit {0}) 0 outermost ts body []
 abbrev pub ShallowShape : List Token → List Stmt → Type 0
 ShallowShape ts body = IsStmts (λ n. n ≤ 200) 0 outermost ts body []
 
--- some script begins with these tokens
+-- some script begins with these tokens; that it may go on by tokens that texts have is a law (`viability` of js_laws)
 abbrev pub Viable : List Token → Type 0
 Viable ts = (more : List Token) × (body : List Stmt) × Shape (ts ++ more) body
 

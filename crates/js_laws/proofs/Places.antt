@@ -12,6 +12,8 @@ use Rattle.std.proofs.lemmas.List.{length-append}
 use Rattle.js_grammar.specs.Grammar.{Viable, IsPlace}
 use Rattle.js_reading.specs.Reading.{end_of, goes, reads}
 use Rattle.js_laws.specs.Reaching.{Reaches}
+use Rattle.js_laws.specs.Further.{IsViableBySpelt}
+use Rattle.js_laws.proofs.Complete.{complete}
 use Rattle.js_laws.proofs.Left.{Left}
 use Rattle.js_laws.proofs.ThroughFrames.{some_is}
 use Rattle.js_laws.proofs.Sound.{left_spelt, step_back}
@@ -29,10 +31,22 @@ reached_left : (tree : List Stmt) (ts : List Token) (p q : Parser) (more : List 
 reached_left tree [] p q more r l = subst (λ (z : Parser). Left Any tree z more) (sym r) l
 reached_left tree (t ∷ ts) p q more r l = step_back Any (λ m n h u. tt) tree p t r.0 (ts ++ more) r.1 tt (reached_left tree ts r.0 q more r.2 l)
 
-pub reached_viable : (ts : List Token) (p : Parser) → Reaches ts start p → Viable ts
-reached_viable ts p r =
+reached_spelt : (ts : List Token) (p : Parser) → Reaches ts start p → IsViableBySpelt ts
+reached_spelt ts p r =
     let v = viable Any (λ n. tt) p (reached_fits ts start p r start_fits) in
-    (v.1, v.0, left_spelt Any v.0 (ts ++ v.1) (reached_left v.0 ts start p v.1 r v.2))
+    (v.1, v.0, v.3, left_spelt Any v.0 (ts ++ v.1) (reached_left v.0 ts start p v.1 r v.2))
+
+pub reached_viable : (ts : List Token) (p : Parser) → Reaches ts start p → Viable ts
+reached_viable ts p r = let v = reached_spelt ts p r in (v.0, v.1, v.3)
+
+-- ---- what some script begins with leads to a state, and from there on by tokens that texts have
+
+leads : (ts more : List Token) (p : Parser) (body : List Stmt) → IsRead Any (ts ++ more) p body → (q : Parser) × Reaches ts p q
+leads [] more p body h = (p, refl)
+leads (t ∷ ts) more p body h = let r = leads ts more h.0 body h.3 in (r.0, (h.0, h.1, r.1))
+
+pub viable_spelt : (ts : List Token) → Viable ts → IsViableBySpelt ts
+viable_spelt ts v = let r = leads ts v.0 start v.1 (complete Any (ts ++ v.0) v.1 v.2) in reached_spelt ts r.0 r.1
 
 -- ---- where reading stops
 
