@@ -1,0 +1,15 @@
+//! The operators and conversions of the language: on plain contents, and on shadows.
+#![tactic(auto)]
+
+mod answers;
+mod arithmetic;
+mod comparing;
+mod conversions;
+mod numbers;
+mod one_operand;
+mod row;
+mod shadows;
+mod texts;
+mod two_operands;
+
+pub use shadows::{binary, step, to_flag, to_text, unary};

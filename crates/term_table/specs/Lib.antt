@@ -1,0 +1,5 @@
+pub mod Listing
+pub mod Growing
+pub mod Views
+pub mod Walking
+pub mod Fitting
