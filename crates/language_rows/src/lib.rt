@@ -4,6 +4,8 @@
 #[cfg(test)]
 mod heap;
 #[cfg(test)]
+mod operators;
+#[cfg(test)]
 mod scripts;
 #[cfg(test)]
 mod tokens;

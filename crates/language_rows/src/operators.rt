@@ -1,0 +1,318 @@
+//! Operators and conversions on values without a term.
+
+ghost use Rattle.std.specs.Prelude.{◌≡◌, None, IfOk};
+ghost use Rattle.term_table.specs.Fitting.{IsValue};
+
+use js_ast::{BinaryOp, StepOp, UnaryOp};
+use js_ops::{binary, step, to_flag, to_text, unary};
+use js_units::{NoMemory, Units};
+use path_core::{Bounds, End, Why};
+use sqlite_items::Items;
+use std::alloc::Global;
+use std::test::Fail;
+use term_table::{Moves, Outcome, Plain, Shadow, Table, Text};
+
+/// The operator, its sides, how many guards are shown, and the value or the reason of the end. A string stands between `'`.
+const BINARY: [(BinaryOp, &str, &str, usize, &str); 66] = [
+    (BinaryOp::Add, "1", "2", 1, "3"),
+    (
+        BinaryOp::Add,
+        "9007199254740990",
+        "1",
+        1,
+        "9007199254740991",
+    ),
+    (BinaryOp::Add, "9007199254740991", "1", 0, "range"),
+    (BinaryOp::Add, "-9007199254740991", "-1", 0, "range"),
+    (BinaryOp::Add, "NaN", "1", 1, "NaN"),
+    (BinaryOp::Add, "undefined", "1", 1, "NaN"),
+    (BinaryOp::Add, "null", "true", 1, "1"),
+    (BinaryOp::Add, "'a'", "'b'", 1, "'ab'"),
+    (BinaryOp::Add, "'a'", "-7", 1, "'a-7'"),
+    (BinaryOp::Add, "null", "'x'", 1, "'nullx'"),
+    (BinaryOp::Add, "undefined", "''", 1, "'undefined'"),
+    (BinaryOp::Add, "false", "'!'", 1, "'false!'"),
+    (BinaryOp::Add, "NaN", "'!'", 1, "'NaN!'"),
+    (BinaryOp::Add, "'a'", "object", 0, "convert"),
+    (BinaryOp::Add, "object", "1", 0, "convert"),
+    (BinaryOp::Subtract, "1", "2", 1, "-1"),
+    (BinaryOp::Subtract, "-9007199254740991", "1", 0, "range"),
+    (BinaryOp::Subtract, "true", "null", 1, "1"),
+    (BinaryOp::Subtract, "'3'", "1", 0, "convert"),
+    (BinaryOp::Multiply, "-6", "7", 1, "-42"),
+    (BinaryOp::Multiply, "94906266", "94906266", 0, "range"),
+    (
+        BinaryOp::Multiply,
+        "94906265",
+        "94906265",
+        1,
+        "9007199136250225",
+    ),
+    (
+        BinaryOp::Multiply,
+        "9007199254740991",
+        "-9007199254740991",
+        0,
+        "range",
+    ),
+    (BinaryOp::Multiply, "0", "-5", 1, "0"),
+    (BinaryOp::Divide, "-42", "7", 1, "-6"),
+    (BinaryOp::Divide, "0", "-7", 1, "0"),
+    (BinaryOp::Divide, "7", "2", 0, "divide"),
+    (BinaryOp::Divide, "7", "0", 0, "divide"),
+    (BinaryOp::Divide, "NaN", "0", 1, "NaN"),
+    (BinaryOp::Remainder, "7", "-3", 0, "1"),
+    (BinaryOp::Remainder, "-7", "3", 0, "-1"),
+    (BinaryOp::Remainder, "-6", "3", 0, "0"),
+    (BinaryOp::Remainder, "5", "0", 0, "NaN"),
+    (BinaryOp::ShiftLeft, "1", "31", 0, "-2147483648"),
+    (BinaryOp::ShiftLeft, "1", "33", 0, "2"),
+    (BinaryOp::ShiftLeft, "3", "-1", 0, "-2147483648"),
+    (BinaryOp::ShiftLeft, "4294967297", "1", 0, "2"),
+    (BinaryOp::ShiftRight, "-5", "1", 0, "-3"),
+    (BinaryOp::ShiftRight, "-1", "31", 0, "-1"),
+    (BinaryOp::ShiftRight, "2147483648", "0", 0, "-2147483648"),
+    (BinaryOp::ShiftRightZero, "-1", "0", 0, "4294967295"),
+    (BinaryOp::ShiftRightZero, "-5", "1", 0, "2147483645"),
+    (BinaryOp::ShiftRightZero, "NaN", "5", 0, "0"),
+    (BinaryOp::BitAnd, "-1", "4294967295", 0, "-1"),
+    (BinaryOp::BitAnd, "12", "10", 0, "8"),
+    (BinaryOp::BitOr, "12", "10", 0, "14"),
+    (BinaryOp::BitXor, "-1", "1", 0, "-2"),
+    (BinaryOp::BitXor, "9007199254740991", "0", 0, "-1"),
+    (BinaryOp::Less, "1", "2", 0, "true"),
+    (BinaryOp::Less, "NaN", "2", 0, "false"),
+    (BinaryOp::GreaterEqual, "NaN", "NaN", 0, "false"),
+    (BinaryOp::LessEqual, "null", "0", 0, "true"),
+    (BinaryOp::Greater, "true", "false", 0, "true"),
+    (BinaryOp::Less, "'10'", "'9'", 0, "true"),
+    (BinaryOp::Less, "'a'", "'ab'", 0, "true"),
+    (BinaryOp::GreaterEqual, "'a'", "'a'", 0, "true"),
+    (BinaryOp::Less, "'1'", "2", 0, "convert"),
+    (BinaryOp::Equal, "NaN", "NaN", 0, "false"),
+    (BinaryOp::NotEqual, "NaN", "NaN", 0, "true"),
+    (BinaryOp::Equal, "null", "undefined", 0, "false"),
+    (BinaryOp::Equal, "'ab'", "'ab'", 0, "true"),
+    (BinaryOp::Equal, "1", "true", 0, "false"),
+    (BinaryOp::Equal, "object", "object", 0, "true"),
+    (BinaryOp::Equal, "-3", "-3", 0, "true"),
+    (BinaryOp::NotEqual, "'1'", "1", 0, "true"),
+    (BinaryOp::Equal, "undefined", "undefined", 0, "true"),
+];
+
+/// The operator, its operand, and the value or the reason of the end.
+const UNARY: [(UnaryOp, &str, &str); 19] = [
+    (UnaryOp::Plus, "true", "1"),
+    (UnaryOp::Plus, "undefined", "NaN"),
+    (UnaryOp::Plus, "'1'", "convert"),
+    (UnaryOp::Minus, "0", "0"),
+    (UnaryOp::Minus, "-9007199254740991", "9007199254740991"),
+    (UnaryOp::Minus, "NaN", "NaN"),
+    (UnaryOp::Not, "''", "true"),
+    (UnaryOp::Not, "'0'", "false"),
+    (UnaryOp::Not, "NaN", "true"),
+    (UnaryOp::Not, "object", "false"),
+    (UnaryOp::Complement, "5", "-6"),
+    (UnaryOp::Complement, "-1", "0"),
+    (UnaryOp::Complement, "4294967295", "0"),
+    (UnaryOp::Complement, "object", "convert"),
+    (UnaryOp::TypeOf, "undefined", "'undefined'"),
+    (UnaryOp::TypeOf, "null", "'object'"),
+    (UnaryOp::TypeOf, "false", "'boolean'"),
+    (UnaryOp::TypeOf, "NaN", "'number'"),
+    (UnaryOp::TypeOf, "''", "'string'"),
+];
+
+/// `++` and `--`, the old value, and the new one or the reason of the end.
+const STEPS: [(StepOp, &str, &str); 5] = [
+    (StepOp::Increment, "-1", "0"),
+    (StepOp::Increment, "9007199254740991", "range"),
+    (StepOp::Increment, "null", "1"),
+    (StepOp::Decrement, "undefined", "NaN"),
+    (StepOp::Decrement, "'2'", "convert"),
+];
+
+/// A value, its truth, and its text or the reason of the end.
+const CONVERTED: [(&str, bool, &str); 11] = [
+    ("undefined", false, "'undefined'"),
+    ("null", false, "'null'"),
+    ("true", true, "'true'"),
+    ("false", false, "'false'"),
+    ("NaN", false, "'NaN'"),
+    ("0", false, "'0'"),
+    ("-9007199254740991", true, "'-9007199254740991'"),
+    ("''", false, "''"),
+    ("'0'", true, "'0'"),
+    ("' '", true, "' '"),
+    ("object", true, "convert"),
+];
+
+/// The number, where it is safe.
+fn safe(n: i64) -> Plain
+    ensures { IsValue result }
+{
+    if -9_007_199_254_740_991 <= n && n <= 9_007_199_254_740_991 {
+        Plain::Int(n)
+    } else {
+        Plain::NotNumber
+    }
+}
+
+/// The content that a text of the tables stands for.
+fn content(alloc: Global, text: &str) -> Result<Plain, NoMemory>
+    ensures { IfOk result (λ plain. IsValue plain) }
+{
+    if let [b'\'', inside @ .., b'\''] = text.as_bytes() {
+        let units = Units::from_bytes(alloc, inside)?;
+        return Ok(Plain::Text(Text::new(alloc, units)?));
+    }
+    Ok(match text {
+        "undefined" => Plain::Undefined,
+        "null" => Plain::Null,
+        "true" => Plain::Bool(true),
+        "false" => Plain::Bool(false),
+        "NaN" => Plain::NotNumber,
+        "object" => Plain::Object(0),
+        number => safe(number.parse::<i64>().unwrap_or(0)),
+    })
+}
+
+fn bare(alloc: Global, text: &str) -> Result<Shadow, NoMemory>
+    ensures { IfOk result (λ shadow. (shadow.term ≡ None) × IsValue shadow.plain) }
+{
+    let plain = content(alloc, text)?;
+    Ok(Shadow { plain, term: None })
+}
+
+fn is_content(alloc: Global, found: &Plain, wanted: &str) -> Result<bool, NoMemory> {
+    let wanted = content(alloc, wanted)?;
+    Ok(match (found, &wanted) {
+        (Plain::Undefined, Plain::Undefined) => true,
+        (Plain::Null, Plain::Null) => true,
+        (Plain::NotNumber, Plain::NotNumber) => true,
+        (Plain::Bool(x), Plain::Bool(y)) => *x == *y,
+        (Plain::Int(m), Plain::Int(n)) => *m == *n,
+        (Plain::Text(s), Plain::Text(t)) => s.units().equals(t.units()),
+        _ => false,
+    })
+}
+
+fn reason(why: Why) -> &'static str {
+    match why {
+        Why::Range => "range",
+        Why::Divide => "divide",
+        Why::Convert => "convert",
+        Why::Size => "size",
+        _ => "",
+    }
+}
+
+fn counted(moves: Moves) -> usize {
+    let mut left = moves;
+    let mut count = 0;
+    while left.take().is_some() {
+        count += 1;
+    }
+    count
+}
+
+/// Whether the answer shows so many guards and has the wanted value or end.
+fn is_answer(alloc: Global, found: Outcome, guards: usize, wanted: &str) -> Result<bool, NoMemory> {
+    match found {
+        Outcome::Value { moves, value } => {
+            Ok(counted(moves) == guards && is_content(alloc, &value.plain, wanted)?)
+        }
+        Outcome::Stop { moves, exit, .. } => Ok(match exit {
+            End::Left { why, .. } => counted(moves) == guards && reason(why) == wanted,
+            _ => false,
+        }),
+        Outcome::Raise { .. } => Ok(false),
+    }
+}
+
+fn table(alloc: Global) -> Result<Table, NoMemory> {
+    let bounds = Bounds {
+        turns: 1,
+        paths: 1,
+        candidates: 1,
+        steps: 1,
+        width: 1,
+        pieces: 1,
+        inputs: Items::new(alloc),
+    };
+    Table::new(alloc, &bounds)
+}
+
+fn wrong_binary(alloc: Global) -> Result<Option<usize>, NoMemory> {
+    let mut table = table(alloc)?;
+    for (row, (op, x, y, guards, wanted)) in BINARY.iter().enumerate() {
+        let x = bare(alloc, x)?;
+        let y = bare(alloc, y)?;
+        let found = binary(alloc, &mut table, 0, *op, &x, &y)?;
+        if !is_answer(alloc, found, *guards, wanted)? {
+            return Ok(Some(row));
+        }
+    }
+    Ok(None)
+}
+
+fn wrong_unary(alloc: Global) -> Result<Option<usize>, NoMemory> {
+    let mut table = table(alloc)?;
+    for (row, (op, x, wanted)) in UNARY.iter().enumerate() {
+        let x = bare(alloc, x)?;
+        if matches!((*op, &x.plain), (UnaryOp::TypeOf, Plain::Object(_))) {
+            return Ok(Some(row));
+        }
+        let found = unary(alloc, &mut table, 0, *op, &x)?;
+        if !is_answer(alloc, found, 0, wanted)? {
+            return Ok(Some(row));
+        }
+    }
+    Ok(None)
+}
+
+fn wrong_step(alloc: Global) -> Result<Option<usize>, NoMemory> {
+    let mut table = table(alloc)?;
+    for (row, (op, x, wanted)) in STEPS.iter().enumerate() {
+        let x = bare(alloc, x)?;
+        let guards = match *wanted {
+            "range" | "convert" => 0,
+            _ => 1,
+        };
+        let found = step(alloc, &mut table, 0, *op, &x)?;
+        if !is_answer(alloc, found, guards, wanted)? {
+            return Ok(Some(row));
+        }
+    }
+    Ok(None)
+}
+
+fn wrong_conversion(alloc: Global) -> Result<Option<usize>, NoMemory> {
+    let mut table = table(alloc)?;
+    for (row, (x, holds, wanted)) in CONVERTED.iter().enumerate() {
+        let x = bare(alloc, x)?;
+        let flag = to_flag(alloc, &mut table, &x)?;
+        let text = to_text(alloc, &mut table, 0, &x)?;
+        if !matches!(flag.plain, Plain::Bool(found) if found == *holds)
+            || !is_answer(alloc, text, 0, wanted)?
+        {
+            return Ok(Some(row));
+        }
+    }
+    Ok(None)
+}
+
+#[test]
+fn operators(rt: HostRuntime) -> Result<(), Fail> {
+    let alloc = rt.alloc();
+    assert_eq!(rt;
+        [
+            wrong_binary(alloc)?,
+            wrong_unary(alloc)?,
+            wrong_step(alloc)?,
+            wrong_conversion(alloc)?
+        ],
+        [None; 4]
+    );
+    Ok(())
+}
