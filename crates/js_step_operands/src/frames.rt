@@ -7,6 +7,7 @@ ghost use Rattle.js_reading.specs.Frames.{context, begun, begins, tightness_of, 
 ghost use Rattle.js_step_operands.specs.Answers.{Gives, Makes};
 
 use crate::operands::boxed;
+use crate::refusals::{discard, discard_value};
 use crate::stop::Stop;
 use js_ast::{BinaryOp, Expr, Link, LogicalOp};
 use js_reading::{Closed, Frame, Pending, Pile};
@@ -73,8 +74,13 @@ pub fn pushed(frames: Pile<Frame>, frame: Frame) -> Result<Pile<Frame>, Stop>
     ensures { Makes result (frame ∷ frames) }
 {
     let mut frames = frames;
-    frames.push(frame)?;
-    Ok(frames)
+    match frames.push(frame) {
+        Ok(()) => Ok(frames),
+        Err(_) => {
+            discard(frames);
+            Err(Stop::NoMemory)
+        }
+    }
 }
 
 /// The operator with its right side, behind those before it.
@@ -105,49 +111,89 @@ pub fn logical_links(
     Ok(links)
 }
 
+/// A chain that ends with its right side.
+fn join_binary(
+    alloc: Global,
+    first: Boxed<Expr>,
+    links: Items<Link<BinaryOp, Boxed<Expr>>>,
+    site: u32,
+    op: BinaryOp,
+    right: Boxed<Expr>,
+) -> Result<Boxed<Expr>, Stop>
+    ensures { Makes result (Expr.Binary first (links ++ record { site = site; op = op; right = right } ∷ [])) }
+{
+    match binary_links(links, site, op, right) {
+        Ok(links) => boxed(alloc, Expr::Binary { first, links }),
+        Err(stop) => {
+            discard_value(first);
+            Err(stop)
+        }
+    }
+}
+
+/// The same for `&&`, `||` and `??`.
+fn join_logical(
+    alloc: Global,
+    first: Boxed<Expr>,
+    links: Items<Link<LogicalOp, Boxed<Expr>>>,
+    site: u32,
+    op: LogicalOp,
+    right: Boxed<Expr>,
+) -> Result<Boxed<Expr>, Stop>
+    ensures { Makes result (Expr.Logical first (links ++ record { site = site; op = op; right = right } ∷ [])) }
+{
+    match logical_links(links, site, op, right) {
+        Ok(links) => boxed(alloc, Expr::Logical { first, links }),
+        Err(stop) => {
+            discard_value(first);
+            Err(stop)
+        }
+    }
+}
+
 /// The whole, once its right side is there.
 fn join(alloc: Global, pending: Pending, value: Boxed<Expr>) -> Result<Boxed<Expr>, Stop>
     ensures { Makes result (join pending value) }
 {
-    let whole = match pending {
-        Pending::Prefix { site, op } => Expr::Unary {
-            site,
-            op,
-            operand: value,
-        },
+    match pending {
+        Pending::Prefix { site, op } => boxed(
+            alloc,
+            Expr::Unary {
+                site,
+                op,
+                operand: value,
+            },
+        ),
         Pending::Binary {
             first,
             links,
             site,
             op,
             ..
-        } => Expr::Binary {
-            first,
-            links: binary_links(links, site, op, value)?,
-        },
+        } => join_binary(alloc, first, links, site, op, value),
         Pending::Logical {
             first,
             links,
             site,
             op,
             ..
-        } => Expr::Logical {
-            first,
-            links: logical_links(links, site, op, value)?,
-        },
+        } => join_logical(alloc, first, links, site, op, value),
         Pending::Conditional {
             start,
             site,
             test,
             consequent,
         } => {
-            Expr::Conditional {
-                start,
-                site,
-                test,
-                consequent,
-                alternate: value,
-            }
+            boxed(
+                alloc,
+                Expr::Conditional {
+                    start,
+                    site,
+                    test,
+                    consequent,
+                    alternate: value,
+                },
+            )
         }
         Pending::Assign {
             start,
@@ -155,21 +201,48 @@ fn join(alloc: Global, pending: Pending, value: Boxed<Expr>) -> Result<Boxed<Exp
             op,
             target,
         } => {
-            Expr::Assign {
-                start,
-                site,
-                op,
-                target,
-                value,
-            }
+            boxed(
+                alloc,
+                Expr::Assign {
+                    start,
+                    site,
+                    op,
+                    target,
+                    value,
+                },
+            )
         }
-        Pending::Arrow { start, parameters } => Expr::Arrow {
-            site: start,
-            parameters,
+        Pending::Arrow { start, parameters } => boxed(
+            alloc,
+            Expr::Arrow {
+                site: start,
+                parameters,
+                value,
+            },
+        ),
+    }
+}
+
+/// An expression inside a frame that is put back.
+fn closed_in(
+    start: u32,
+    value: Boxed<Expr>,
+    frame: Frame,
+    frames: Pile<Frame>,
+) -> Result<Closed, Stop>
+    ensures { Makes result (record { start = start; value = value; frames = frame ∷ frames }) }
+{
+    match pushed(frames, frame) {
+        Ok(frames) => Ok(Closed {
+            start,
             value,
-        },
-    };
-    boxed(alloc, whole)
+            frames,
+        }),
+        Err(stop) => {
+            discard_value(value);
+            Err(stop)
+        }
+    }
 }
 
 /// What is tighter ends with the expression.
@@ -190,27 +263,19 @@ pub fn close_to(
             frames,
         }),
         Some(Frame::Pending(pending)) => {
-            if tightness(&pending) < level {
-                let begin = begin_of(&pending);
-                let whole = join(alloc, pending, value)?;
-                close_to(alloc, level, begin, whole, frames)
-            } else {
-                let frames = pushed(frames, Frame::Pending(pending))?;
-                Ok(Closed {
-                    start,
-                    value,
-                    frames,
-                })
+            if tightness(&pending) >= level {
+                return closed_in(start, value, Frame::Pending(pending), frames);
+            }
+            let begin = begin_of(&pending);
+            match join(alloc, pending, value) {
+                Ok(whole) => close_to(alloc, level, begin, whole, frames),
+                Err(stop) => {
+                    discard(frames);
+                    Err(stop)
+                }
             }
         }
-        Some(frame) => {
-            let frames = pushed(frames, frame)?;
-            Ok(Closed {
-                start,
-                value,
-                frames,
-            })
-        }
+        Some(frame) => closed_in(start, value, frame, frames),
     }
 }
 

@@ -6,8 +6,10 @@ ghost use Rattle.js_ast.specs.declared.parts.Target.TheVariants as target;
 ghost use Rattle.js_grammar.specs.Grammar.{call_of};
 ghost use Rattle.js_ast.specs.declared.parts.Suffix.TheVariants as suffix;
 ghost use Rattle.js_reading.specs.Operands.{value_of, tail_of, target_of, parameter_of, first_of, suffixes_of, wrapped, is_literal};
+ghost use Rattle.js_reading.specs.declared.mode.Operand.TheVariants as operands;
 ghost use Rattle.js_step_operands.specs.Answers.{Gives, Makes};
 
+use crate::refusals::{discard_operand, discard_value};
 use crate::stop::Stop;
 use js_ast::{Access, Expr, Identifier, Suffix, Target};
 use js_grammar::TokenKind;
@@ -59,8 +61,13 @@ fn accessed(
 ) -> Result<Boxed<Expr>, Stop>
     ensures { Makes result (Expr.Call first (earlier ++ suffix.Access last ∷ [])) }
 {
-    let suffixes = suffixed(earlier, Suffix::Access(last))?;
-    boxed(alloc, Expr::Call { first, suffixes })
+    match suffixed(earlier, Suffix::Access(last)) {
+        Ok(suffixes) => boxed(alloc, Expr::Call { first, suffixes }),
+        Err(stop) => {
+            discard_value(first);
+            Err(stop)
+        }
+    }
 }
 
 fn name(alloc: Global, name: Identifier) -> Result<Boxed<Expr>, Stop>
@@ -170,7 +177,7 @@ pub fn target_of(alloc: Global, operand: Operand) -> Result<Target<Boxed<Expr>>,
             last,
         } => property_target(alloc, first, earlier, last),
         other => {
-            drop(other);
+            discard_operand(other);
             Err(Stop::Syntax)
         }
     }
@@ -184,9 +191,39 @@ pub fn parameter_of(operand: Operand) -> Result<Identifier, Stop>
         Operand::Name(name) => Ok(name),
         Operand::RoundName(name) => Ok(name),
         other => {
-            drop(other);
+            discard_operand(other);
             Err(Stop::Syntax)
         }
+    }
+}
+
+/// A call's first part, and its suffixes with the last one.
+fn accessed_parts(
+    first: Boxed<Expr>,
+    earlier: Items<Suffix<Boxed<Expr>>>,
+    last: Access<Boxed<Expr>>,
+) -> Result<(Boxed<Expr>, Items<Suffix<Boxed<Expr>>>), Stop>
+    ensures { Makes result (first, earlier ++ suffix.Access last ∷ []) }
+{
+    match suffixed(earlier, Suffix::Access(last)) {
+        Ok(suffixes) => Ok((first, suffixes)),
+        Err(stop) => {
+            discard_value(first);
+            Err(stop)
+        }
+    }
+}
+
+/// The whole operand, with no suffix behind it.
+fn whole_parts(
+    alloc: Global,
+    operand: Operand,
+) -> Result<(Boxed<Expr>, Items<Suffix<Boxed<Expr>>>), Stop>
+    ensures { Makes result (value_of operand, []) }
+{
+    match value_of(alloc, operand) {
+        Ok(value) => Ok((value, Items::new(alloc))),
+        Err(stop) => Err(stop),
     }
 }
 
@@ -202,9 +239,19 @@ pub fn call_parts(
             first,
             earlier,
             last,
-        } => { Ok((first, suffixed(earlier, Suffix::Access(last))?)) }
+        } => accessed_parts(first, earlier, last),
         Operand::Call { first, suffixes } => Ok((first, suffixes)),
-        operand => Ok((value_of(alloc, operand)?, Items::new(alloc))),
+        operand => whole_parts(alloc, operand),
+    }
+}
+
+/// An operand that isn't a target.
+fn wrapped_whole(alloc: Global, operand: Operand) -> Result<Operand, Stop>
+    ensures { Makes result (operands.Primary (value_of operand)) }
+{
+    match value_of(alloc, operand) {
+        Ok(value) => Ok(Operand::Primary(value)),
+        Err(stop) => Err(stop),
     }
 }
 
@@ -236,7 +283,7 @@ pub fn wrapped(alloc: Global, operand: Operand) -> Result<Operand, Stop>
                 last,
             })
         }
-        operand => Ok(Operand::Primary(value_of(alloc, operand)?)),
+        operand => wrapped_whole(alloc, operand),
     }
 }
 

@@ -1,13 +1,16 @@
 //! What ends with an operand.
 
-ghost use Rattle.std.specs.Prelude.{true, ◌∷◌};
-ghost use Rattle.js_reading.specs.Operands.{settled, closed, whole, value_of};
+ghost use Rattle.std.specs.Prelude.{true, ◌∷◌, Some, option_and_then};
+ghost use Rattle.js_reading.specs.Operands.{settled, closed, whole, value_of, target_of};
 ghost use Rattle.js_reading.specs.declared.frame.Frame.TheVariants as frame;
 ghost use Rattle.js_step_operands.specs.Answers.{Gives, Makes};
 
 use js_ast::{Expr, StepOp, Target};
 use js_reading::{Closed, Frame, Operand, Pile};
-use js_step_operands::{ALL, Stop, boxed, close_to, pushed, target_of, value_of};
+use js_step_operands::{
+    ALL, Stop, boxed, close_to, discard, discard_frame, discard_operand, pushed, target_of,
+    value_of,
+};
 use sqlite_items::Boxed;
 use std::alloc::Global;
 
@@ -36,15 +39,49 @@ fn prefix_step(
 fn plain(alloc: Global, start: u32, operand: Operand, frames: Pile<Frame>) -> Result<Closed, Stop>
     ensures { Makes result (record { start = start; value = value_of operand; frames = frames }) }
 {
-    let value = value_of(alloc, operand)?;
-    Ok(Closed {
-        start,
-        value,
-        frames,
-    })
+    match value_of(alloc, operand) {
+        Ok(value) => Ok(Closed {
+            start,
+            value,
+            frames,
+        }),
+        Err(stop) => {
+            discard(frames);
+            Err(stop)
+        }
+    }
+}
+
+/// The same inside a frame that is put back.
+fn plain_in(
+    alloc: Global,
+    start: u32,
+    operand: Operand,
+    frame: Frame,
+    frames: Pile<Frame>,
+) -> Result<Closed, Stop>
+    ensures { Makes result (record { start = start; value = value_of operand; frames = frame ∷ frames }) }
+{
+    match pushed(frames, frame) {
+        Ok(frames) => plain(alloc, start, operand, frames),
+        Err(stop) => {
+            discard_operand(operand);
+            Err(stop)
+        }
+    }
 }
 
 /// The tree of `++` or `--` and the operand.
+fn step_tree(alloc: Global, site: u32, op: StepOp, operand: Operand) -> Result<Boxed<Expr>, Stop>
+    ensures { Gives (λ x. x) result (option_and_then (λ t. Some (Expr.Step site site op true t)) (target_of operand)) }
+{
+    match target_of(alloc, operand) {
+        Ok(target) => prefix_step(alloc, site, op, target),
+        Err(stop) => Err(stop),
+    }
+}
+
+/// `++` or `--` ends with its operand.
 fn stepped(
     alloc: Global,
     site: u32,
@@ -54,13 +91,17 @@ fn stepped(
 ) -> Result<Closed, Stop>
     ensures { Gives (λ x. x) result (settled site operand (frame.Step site op ∷ frames)) }
 {
-    let target = target_of(alloc, operand)?;
-    let value = prefix_step(alloc, site, op, target)?;
-    Ok(Closed {
-        start: site,
-        value,
-        frames,
-    })
+    match step_tree(alloc, site, op, operand) {
+        Ok(value) => Ok(Closed {
+            start: site,
+            value,
+            frames,
+        }),
+        Err(stop) => {
+            discard(frames);
+            Err(stop)
+        }
+    }
 }
 
 /// The operand's tree, or that of the `++` or `--` before it.
@@ -68,16 +109,14 @@ fn settled(alloc: Global, start: u32, operand: Operand, frames: Pile<Frame>) -> 
     ensures { Gives (λ x. x) result (settled start operand frames) }
 {
     let mut frames = frames;
-    match frames.pop() {
+    let around = frames.pop();
+    match around {
         None => plain(alloc, start, operand, frames),
-        Some(Frame::Step { site, op }) => stepped(alloc, site, op, operand, frames),
-        Some(frame) => match pushed(frames, frame) {
-            Ok(frames) => plain(alloc, start, operand, frames),
-            Err(stop) => {
-                drop(operand);
-                Err(stop)
-            }
-        },
+        Some(Frame::Step { site, op }) => {
+            discard_frame(around);
+            stepped(alloc, site, op, operand, frames)
+        }
+        Some(frame) => plain_in(alloc, start, operand, frame, frames),
     }
 }
 
@@ -91,12 +130,14 @@ pub fn closed(
 ) -> Result<Closed, Stop>
     ensures { Gives (λ x. x) result (closed level start operand frames) }
 {
-    let Closed {
-        start,
-        value,
-        frames,
-    } = settled(alloc, start, operand, frames)?;
-    close_to(alloc, level, start, value, frames)
+    match settled(alloc, start, operand, frames) {
+        Ok(Closed {
+            start,
+            value,
+            frames,
+        }) => close_to(alloc, level, start, value, frames),
+        Err(stop) => Err(stop),
+    }
 }
 
 /// All ends with the operand that may.

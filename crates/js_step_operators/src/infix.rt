@@ -1,6 +1,10 @@
 //! Tokens that go on with the expression behind an operand.
 
-ghost use Rattle.js_reading.specs.Operands.{on_question, on_assign};
+ghost use Rattle.std.specs.Prelude.{Some};
+ghost use Rattle.js_reading.specs.Frames.{when, takes_assign};
+ghost use Rattle.js_reading.specs.Operands.{on_question, on_assign, wants};
+ghost use Rattle.js_reading.specs.declared.frame.Frame.TheVariants as frame;
+ghost use Rattle.js_reading.specs.declared.frame.Pending.TheVariants as pending;
 ghost use Rattle.js_reading.specs.Reading.{continues_by};
 ghost use Rattle.js_step_operands.specs.Answers.{Gives};
 
@@ -8,10 +12,14 @@ use crate::binary::on_binary;
 use crate::closing::closed;
 use crate::logical::on_logical;
 use crate::suffixes::{on_dot, on_round, on_square};
-use js_ast::BinaryOp;
+use js_ast::{BinaryOp, Expr, Target};
 use js_grammar::TokenKind;
 use js_reading::{Bracket, Closed, Frame, Operand, Parser, Pending, Pile};
-use js_step_operands::{CONDITIONAL, Stop, takes_assign, target_of, wants};
+use js_step_operands::{
+    CONDITIONAL, Stop, discard_operand, discard_token, refused, stopped, takes_assign, target_of,
+    wants,
+};
+use sqlite_items::Boxed;
 use std::alloc::Global;
 
 fn on_question(
@@ -23,32 +31,33 @@ fn on_question(
 ) -> Result<Parser, Stop>
     ensures { Gives (λ x. x) result (on_question site start operand frames) }
 {
-    let Closed {
-        start,
-        value,
-        frames,
-    } = closed(alloc, CONDITIONAL, start, operand, frames)?;
-    wants(
-        Frame::Bracket(Bracket::Question {
+    match closed(alloc, CONDITIONAL, start, operand, frames) {
+        Ok(Closed {
             start,
-            site,
-            test: value,
-        }),
-        frames,
-    )
+            value,
+            frames,
+        }) => wants(
+            Frame::Bracket(Bracket::Question {
+                start,
+                site,
+                test: value,
+            }),
+            frames,
+        ),
+        Err(stop) => Err(stop),
+    }
 }
 
-fn on_assign(
-    alloc: Global,
+/// A value is due, where an assignment may begin.
+fn assigns(
     op: Option<BinaryOp>,
     site: u32,
     start: u32,
-    operand: Operand,
+    target: Target<Boxed<Expr>>,
     frames: Pile<Frame>,
 ) -> Result<Parser, Stop>
-    ensures { Gives (λ x. x) result (on_assign op site start operand frames) }
+    ensures { Gives (λ x. x) result (when (takes_assign frames) (Some (wants (frame.Pending (pending.Assign start site op target)) frames))) }
 {
-    let target = target_of(alloc, operand)?;
     if takes_assign(&frames) {
         return wants(
             Frame::Pending(Pending::Assign {
@@ -61,8 +70,23 @@ fn on_assign(
         );
     }
     drop(target);
-    drop(frames);
-    Err(Stop::Syntax)
+    refused(frames)
+}
+
+fn on_assign(
+    alloc: Global,
+    op: Option<BinaryOp>,
+    site: u32,
+    start: u32,
+    operand: Operand,
+    frames: Pile<Frame>,
+) -> Result<Parser, Stop>
+    ensures { Gives (λ x. x) result (on_assign op site start operand frames) }
+{
+    match target_of(alloc, operand) {
+        Ok(target) => assigns(op, site, start, target, frames),
+        Err(stop) => stopped(stop, frames),
+    }
 }
 
 fn continues(
@@ -84,9 +108,8 @@ fn continues(
         TokenKind::Assign(op) => on_assign(alloc, *op, site, start, operand, frames),
         TokenKind::Question => on_question(alloc, site, start, operand, frames),
         _ => {
-            drop(operand);
-            drop(frames);
-            Err(Stop::Syntax)
+            discard_operand(operand);
+            refused(frames)
         }
     }
 }
@@ -103,6 +126,6 @@ pub fn continued(
     ensures { Gives (λ x. x) result (continues_by site start operand frames kind) }
 {
     let read = continues(alloc, site, start, operand, frames, &kind);
-    drop(kind);
+    discard_token(kind);
     read
 }

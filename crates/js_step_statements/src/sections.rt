@@ -1,7 +1,12 @@
 //! Marks behind an expression that is a part of a statement.
 
-ghost use Rattle.std.specs.Prelude.{◌≡◌, ◌∷◌, ◌++◌, []};
-ghost use Rattle.js_reading.specs.Statements.{is_statement, is_let, of_part, over_of, over, semicolon_part, close_round_part, comma_part, declared, declares_more, declaration_over, do_over, bare};
+ghost use Rattle.std.specs.Prelude.{◌≡◌, ◌∷◌, ◌++◌, [], Some, option_and_then};
+ghost use Rattle.js_ast.specs.declared.parts.LoopHead.TheVariants as head;
+ghost use Rattle.js_reading.specs.Frames.{when};
+ghost use Rattle.js_reading.specs.Operands.{wants};
+ghost use Rattle.js_reading.specs.declared.frame.Frame.TheVariants as frame;
+ghost use Rattle.js_reading.specs.declared.frame.Part.TheVariants as part;
+ghost use Rattle.js_reading.specs.Statements.{with_declarator, is_statement, is_let, of_part, over_of, over, semicolon_part, close_round_part, comma_part, declared, declares_more, declaration_over, do_over, bare};
 ghost use Rattle.js_reading.specs.Reading.{semicolon_of, on_semicolon};
 ghost use Rattle.js_step_operands.specs.Answers.{Gives, Makes};
 
@@ -9,7 +14,10 @@ use js_ast::{DeclarationKind, Declarator, Expr, Identifier, LoopHead, Stmt};
 use js_reading::{
     Below, Declaring, Ending, Frame, Mode, Opening, Operand, Over, Parser, Part, Pile, Place,
 };
-use js_step_operands::{Stop, below_due, wants};
+use js_step_operands::{
+    Stop, below_due, discard, discard_frame, discard_part, discard_value, refused, refused_at,
+    stopped, wants,
+};
 use js_step_operators::whole;
 use sqlite_items::{Boxed, Items};
 use std::alloc::Global;
@@ -68,15 +76,17 @@ fn declared(
         declarators,
         ..
     } = declaring;
-    let declarators = with_declarator(declarators, name, value)?;
-    boxed(
-        alloc,
-        Stmt::Declare {
-            site,
-            kind,
-            declarators,
-        },
-    )
+    match with_declarator(declarators, name, value) {
+        Ok(declarators) => boxed(
+            alloc,
+            Stmt::Declare {
+                site,
+                kind,
+                declarators,
+            },
+        ),
+        Err(stop) => Err(stop),
+    }
 }
 
 /// The declaration that ends with a name.
@@ -86,18 +96,30 @@ pub fn bare(alloc: Global, declaring: Declaring, name: Identifier) -> Result<Box
     declared(alloc, declaring, name, None)
 }
 
+/// A declaration that is a statement ends with its value.
+fn declared_with(
+    alloc: Global,
+    declaring: Declaring,
+    name: Identifier,
+    value: Boxed<Expr>,
+) -> Result<Boxed<Stmt>, Stop>
+    ensures { Gives (λ x. x) result (when (is_statement declaring.place) (Some (declared declaring name (Some value)))) }
+{
+    if is_statement(declaring.place) {
+        return declared(alloc, declaring, name, Some(value));
+    }
+    discard_value(value);
+    discard_part(Part::Declare { declaring, name });
+    Err(Stop::Syntax)
+}
+
 /// The statement that ends with its expression.
 fn of_part(alloc: Global, part: Part, value: Boxed<Expr>) -> Result<Boxed<Stmt>, Stop>
     ensures { Gives (λ x. x) result (of_part part value) }
 {
     match part {
         Part::Express { site } => boxed(alloc, Stmt::Express { site, value }),
-        Part::Declare { declaring, name } => {
-            if is_statement(declaring.place) {
-                return declared(alloc, declaring, name, Some(value));
-            }
-            Err(Stop::Syntax)
-        }
+        Part::Declare { declaring, name } => declared_with(alloc, declaring, name, value),
         Part::Return { site } => {
             boxed(
                 alloc,
@@ -109,8 +131,27 @@ fn of_part(alloc: Global, part: Part, value: Boxed<Expr>) -> Result<Boxed<Stmt>,
         }
         Part::Throw { site } => boxed(alloc, Stmt::Throw { site, value }),
         other => {
-            drop(other);
+            discard_value(value);
+            discard_part(other);
             Err(Stop::Syntax)
+        }
+    }
+}
+
+/// The part ends with its expression.
+fn over_part(
+    alloc: Global,
+    part: Part,
+    value: Boxed<Expr>,
+    frames: Pile<Frame>,
+) -> Result<Over, Stop>
+    ensures { Gives (λ x. x) result (over_of value (frame.Part part ∷ frames)) }
+{
+    match of_part(alloc, part, value) {
+        Ok(value) => Ok(Over { value, frames }),
+        Err(stop) => {
+            discard(frames);
+            Err(stop)
         }
     }
 }
@@ -121,12 +162,11 @@ pub fn over_of(alloc: Global, value: Boxed<Expr>, frames: Pile<Frame>) -> Result
 {
     let mut frames = frames;
     match frames.pop() {
-        Some(Frame::Part(part)) => Ok(Over {
-            value: of_part(alloc, part, value)?,
-            frames,
-        }),
+        Some(Frame::Part(part)) => over_part(alloc, part, value, frames),
         other => {
-            drop(other);
+            discard_value(value);
+            discard_frame(other);
+            discard(frames);
             Err(Stop::Syntax)
         }
     }
@@ -142,6 +182,46 @@ pub fn over(stmt: Boxed<Stmt>, frames: Pile<Frame>) -> Parser
     }
 }
 
+/// A declaration ends as a statement.
+fn statement_over(
+    alloc: Global,
+    declaring: Declaring,
+    name: Identifier,
+    value: Option<Boxed<Expr>>,
+    frames: Pile<Frame>,
+) -> Result<Parser, Stop>
+    ensures { Makes result (over (declared declaring name value) frames) }
+{
+    match declared(alloc, declaring, name, value) {
+        Ok(stmt) => Ok(over(stmt, frames)),
+        Err(stop) => stopped(stop, frames),
+    }
+}
+
+/// A declaration ends as the first part of a `for`.
+fn head_over(
+    declaring: Declaring,
+    name: Identifier,
+    value: Option<Boxed<Expr>>,
+    frames: Pile<Frame>,
+) -> Result<Parser, Stop>
+    ensures { Makes result (wants (frame.Part (part.ForTest declaring.site (head.Declare declaring.kind (with_declarator declaring name value)))) frames) }
+{
+    let Declaring {
+        site,
+        kind,
+        declarators,
+        ..
+    } = declaring;
+    match with_declarator(declarators, name, value) {
+        Ok(declarators) => {
+            let head = LoopHead::Declare { kind, declarators };
+            wants(Frame::Part(Part::ForTest { site, head }), frames)
+        }
+        Err(stop) => stopped(stop, frames),
+    }
+}
+
 /// The end of a declaration: a statement, or the first part of a `for`.
 pub fn declaration_over(
     alloc: Global,
@@ -153,17 +233,24 @@ pub fn declaration_over(
     ensures { Makes result (declaration_over declaring name value frames) }
 {
     if is_statement(declaring.place) {
-        return Ok(over(declared(alloc, declaring, name, value)?, frames));
+        return statement_over(alloc, declaring, name, value, frames);
     }
-    let Declaring {
-        site,
-        kind,
-        declarators,
-        ..
-    } = declaring;
-    let declarators = with_declarator(declarators, name, value)?;
-    let head = LoopHead::Declare { kind, declarators };
-    wants(Frame::Part(Part::ForTest { site, head }), frames)
+    head_over(declaring, name, value, frames)
+}
+
+/// `;` behind an expression that ends its statement.
+fn part_over(
+    alloc: Global,
+    value: Boxed<Expr>,
+    part: Part,
+    frames: Pile<Frame>,
+) -> Result<Parser, Stop>
+    ensures { Gives (λ x. x) result (option_and_then (λ s. Some (over s frames)) (of_part part value)) }
+{
+    match of_part(alloc, part, value) {
+        Ok(stmt) => Ok(over(stmt, frames)),
+        Err(stop) => stopped(stop, frames),
+    }
 }
 
 fn semicolon_part(
@@ -186,7 +273,7 @@ fn semicolon_part(
         Part::Declare { declaring, name } => {
             declaration_over(alloc, declaring, name, Some(value), frames)
         }
-        part => Ok(over(of_part(alloc, part, value)?, frames)),
+        part => part_over(alloc, value, part, frames),
     }
 }
 
@@ -197,8 +284,8 @@ fn semicolon_of(alloc: Global, value: Boxed<Expr>, frames: Pile<Frame>) -> Resul
     match frames.pop() {
         Some(Frame::Part(part)) => semicolon_part(alloc, value, part, frames),
         other => {
-            drop(other);
-            Err(Stop::Syntax)
+            discard_value(value);
+            refused_at(other, frames)
         }
     }
 }
@@ -212,8 +299,10 @@ pub fn on_semicolon(
 ) -> Result<Parser, Stop>
     ensures { Gives (λ x. x) result (on_semicolon start operand frames) }
 {
-    let closed = whole(alloc, start, operand, frames)?;
-    semicolon_of(alloc, closed.value, closed.frames)
+    match whole(alloc, start, operand, frames) {
+        Ok(closed) => semicolon_of(alloc, closed.value, closed.frames),
+        Err(stop) => Err(stop),
+    }
 }
 
 fn do_over(
@@ -232,10 +321,13 @@ fn do_over(
         test_site,
         test,
     };
-    Ok(Parser {
-        mode: Mode::Ending(Ending::Do(boxed(alloc, stmt)?)),
-        frames,
-    })
+    match boxed(alloc, stmt) {
+        Ok(stmt) => Ok(Parser {
+            mode: Mode::Ending(Ending::Do(stmt)),
+            frames,
+        }),
+        Err(stop) => stopped(stop, frames),
+    }
 }
 
 /// `)` behind an expression that is a part of a statement.
@@ -286,8 +378,9 @@ pub fn close_round_part(
             )
         }
         other => {
-            drop(other);
-            Err(Stop::Syntax)
+            discard_value(value);
+            discard_part(other);
+            refused(frames)
         }
     }
 }
@@ -307,17 +400,21 @@ pub fn declares_more(
         kind,
         declarators,
     } = declaring;
-    let declarators = with_declarator(declarators, name, value)?;
-    let declaring = Declaring {
-        place,
-        site,
-        kind,
-        declarators,
-    };
-    Ok(Parser {
-        mode: Mode::Opening(Opening::Declare(declaring)),
-        frames,
-    })
+    match with_declarator(declarators, name, value) {
+        Ok(declarators) => {
+            let declaring = Declaring {
+                place,
+                site,
+                kind,
+                declarators,
+            };
+            Ok(Parser {
+                mode: Mode::Opening(Opening::Declare(declaring)),
+                frames,
+            })
+        }
+        Err(stop) => stopped(stop, frames),
+    }
 }
 
 /// `,` behind an expression that is a part of a statement.
@@ -332,8 +429,9 @@ pub fn comma_part(
     match part {
         Part::Declare { declaring, name } => { declares_more(declaring, name, Some(value), frames) }
         other => {
-            drop(other);
-            Err(Stop::Syntax)
+            discard_value(value);
+            discard_part(other);
+            refused(frames)
         }
     }
 }

@@ -1,23 +1,27 @@
 //! Statements that begin, and tokens behind those that are over.
 
-ghost use Rattle.std.specs.Prelude.{◌∷◌, ◌++◌, [], true, false};
-ghost use Rattle.js_reading.specs.Operands.{at, want, word_of};
+ghost use Rattle.std.specs.Prelude.{◌∷◌, ◌++◌, [], true, false, Some};
+ghost use Rattle.js_reading.specs.Operands.{at, below_due, want, want_word, word_of};
 ghost use Rattle.js_reading.specs.Reading.{below_by};
 ghost use Rattle.js_grammar.specs.declared.token.Word.TheVariants as word;
 ghost use Rattle.js_reading.specs.declared.frame.Frame.TheVariants as frame;
+ghost use Rattle.js_reading.specs.declared.frame.Below.TheVariants as belows;
+ghost use Rattle.js_reading.specs.declared.frame.Part.TheVariants as parts;
+ghost use Rattle.js_reading.specs.declared.mode.Ending.TheVariants as endings;
 ghost use Rattle.js_reading.specs.declared.mode.Mode.TheVariants as mode;
-ghost use Rattle.js_reading.specs.Statements.{settle, test_due, jump_in_loop, loop_word, express, inner_word, inner, declaration, item_word, item, next_item, on_else, on_while, after, braces_due};
+ghost use Rattle.js_reading.specs.Statements.{arm, settle, test_due, jump_in_loop, loop_word, express, inner_word, inner, declaration, item_word, item, next_item, on_else, on_while, after, braces_due};
 ghost use Rattle.js_step_operands.specs.Answers.{Gives, Makes};
 
 use crate::joining::{close_braces, over_with, settle, with_arm};
 use crate::sections::boxed;
-use js_ast::{DeclarationKind, Stmt};
+use js_ast::{Arm, DeclarationKind, Expr, Stmt};
 use js_grammar::{TokenKind, Word};
 use js_reading::{
     Below, Braces, Declaring, Ending, Frame, Heading, Mode, Opening, Parser, Part, Pile, Place,
 };
 use js_step_operands::{
-    Stop, below_due, context_of, heading, opens_list, pushed, want, want_word, word_of,
+    Stop, below_due, context_of, discard_braces, discard_frame, discard_token, heading, opens_list,
+    pushed, refused, refused_at, stopped, want, want_word, word_of,
 };
 use sqlite_items::{Boxed, Items};
 use std::alloc::Global;
@@ -25,11 +29,13 @@ use std::alloc::Global;
 fn test_due(part: Part, frames: Pile<Frame>) -> Result<Parser, Stop>
     ensures { Gives (λ x. x) result (test_due part frames) }
 {
-    let frames = pushed(frames, Frame::Part(part))?;
-    Ok(Parser {
-        mode: Mode::Opening(Opening::Test),
-        frames,
-    })
+    match pushed(frames, Frame::Part(part)) {
+        Ok(frames) => Ok(Parser {
+            mode: Mode::Opening(Opening::Test),
+            frames,
+        }),
+        Err(stop) => Err(stop),
+    }
 }
 
 fn ending(ending: Ending, frames: Pile<Frame>) -> Result<Parser, Stop>
@@ -51,14 +57,24 @@ pub fn opening(opening: Opening, frames: Pile<Frame>) -> Result<Parser, Stop>
     })
 }
 
+/// `break` or `continue`, which may be over.
+fn jumped(alloc: Global, stmt: Stmt, frames: Pile<Frame>) -> Result<Parser, Stop>
+    ensures { Makes result (at (mode.Ending (endings.Jump stmt)) frames) }
+{
+    match boxed(alloc, stmt) {
+        Ok(stmt) => ending(Ending::Jump(stmt), frames),
+        Err(stop) => stopped(stop, frames),
+    }
+}
+
 fn jump(alloc: Global, stmt: Stmt, frames: Pile<Frame>) -> Result<Parser, Stop>
     ensures { Gives (λ x. x) result (jump_in_loop stmt frames) }
 {
     if context_of(&frames).in_loop {
-        return ending(Ending::Jump(boxed(alloc, stmt)?), frames);
+        return jumped(alloc, stmt, frames);
     }
     drop(stmt);
-    Err(Stop::Syntax)
+    refused(frames)
 }
 
 fn begins_return(site: u32, frames: Pile<Frame>) -> Result<Parser, Stop>
@@ -67,7 +83,7 @@ fn begins_return(site: u32, frames: Pile<Frame>) -> Result<Parser, Stop>
     if context_of(&frames).in_function {
         return ending(Ending::Return { site }, frames);
     }
-    Err(Stop::Syntax)
+    refused(frames)
 }
 
 /// An expression that is a statement.
@@ -90,7 +106,7 @@ pub fn want_part(
     match pushed(frames, Frame::Part(part)) {
         Ok(frames) => want(alloc, site, frames, kind),
         Err(stop) => {
-            drop(kind);
+            discard_token(kind);
             Err(stop)
         }
     }
@@ -101,6 +117,16 @@ pub fn braces_due(braces: Braces, frames: Pile<Frame>) -> Result<Parser, Stop>
     ensures { Gives (λ x. x) result (braces_due braces frames) }
 {
     heading(Heading::Braces(braces), frames)
+}
+
+/// An expression begins that is a statement.
+fn express_word(alloc: Global, word: Word, site: u32, frames: Pile<Frame>) -> Result<Parser, Stop>
+    ensures { Gives (λ x. x) result (want_word word site (express site frames)) }
+{
+    match express(site, frames) {
+        Ok(frames) => want_word(alloc, word, site, frames),
+        Err(stop) => Err(stop),
+    }
 }
 
 fn loop_word(alloc: Global, word: Word, site: u32, frames: Pile<Frame>) -> Result<Parser, Stop>
@@ -114,7 +140,7 @@ fn loop_word(alloc: Global, word: Word, site: u32, frames: Pile<Frame>) -> Resul
         Word::While => test_due(Part::While { site }, frames),
         Word::Do => below_due(Below::Do { site }, frames),
         Word::For => opening(Opening::For { site }, frames),
-        word => want_word(alloc, word, site, express(site, frames)?),
+        word => express_word(alloc, word, site, frames),
     }
 }
 
@@ -128,7 +154,7 @@ fn inner_word(alloc: Global, word: Word, site: u32, frames: Pile<Frame>) -> Resu
         Word::Return => begins_return(site, frames),
         Word::Throw => ending(Ending::Throw { site }, frames),
         Word::Try => braces_due(Braces::Try { site }, frames),
-        Word::Function => Err(Stop::Syntax),
+        Word::Function => refused(frames),
         word => loop_word(alloc, word, site, frames),
     }
 }
@@ -139,15 +165,13 @@ pub fn inner(alloc: Global, site: u32, frames: Pile<Frame>, kind: TokenKind) -> 
 {
     match kind {
         TokenKind::OpenBrace => {
-            drop(kind);
             opens_list(alloc, Braces::Block { site }, frames)
         }
         TokenKind::Semicolon => {
-            drop(kind);
             over_with(alloc, Stmt::Nothing { site }, frames)
         }
         TokenKind::Word { word, .. } => {
-            drop(kind);
+            discard_token(kind);
             inner_word(alloc, word, site, frames)
         }
         _ => want_part(alloc, Part::Express { site }, site, frames, kind),
@@ -167,9 +191,24 @@ fn inner_below(
     match pushed(frames, frame) {
         Ok(frames) => inner(alloc, site, frames, kind),
         Err(stop) => {
-            drop(kind);
+            discard_token(kind);
             Err(stop)
         }
+    }
+}
+
+/// `if` where a statement below another begins.
+fn below_if(alloc: Global, site: u32, frames: Pile<Frame>, kind: TokenKind) -> Result<Parser, Stop>
+    ensures { Gives (λ x. x) result (below_by site frames kind (Some word.If)) }
+{
+    let mut frames = frames;
+    match frames.pop() {
+        Some(Frame::Below(Below::Else { arms })) => {
+            discard_token(kind);
+            test_due(Part::If { arms, site }, frames)
+        }
+        Some(frame) => inner_below(alloc, site, frame, frames, kind),
+        None => inner(alloc, site, frames, kind),
     }
 }
 
@@ -177,18 +216,10 @@ fn inner_below(
 pub fn below(alloc: Global, site: u32, frames: Pile<Frame>, kind: TokenKind) -> Result<Parser, Stop>
     ensures { Gives (λ x. x) result (below_by site frames kind (word_of kind)) }
 {
-    if let Some(Word::If) = word_of(&kind) {
-        let mut frames = frames;
-        return match frames.pop() {
-            Some(Frame::Below(Below::Else { arms })) => {
-                drop(kind);
-                test_due(Part::If { arms, site }, frames)
-            }
-            Some(frame) => inner_below(alloc, site, frame, frames, kind),
-            None => inner(alloc, site, frames, kind),
-        };
+    match word_of(&kind) {
+        Some(Word::If) => below_if(alloc, site, frames, kind),
+        _ => inner(alloc, site, frames, kind),
     }
-    inner(alloc, site, frames, kind)
 }
 
 /// Names are declared.
@@ -236,12 +267,9 @@ pub fn item(alloc: Global, site: u32, frames: Pile<Frame>, kind: TokenKind) -> R
     ensures { Gives (λ x. x) result (item site frames kind) }
 {
     match kind {
-        TokenKind::CloseBrace => {
-            drop(kind);
-            close_braces(alloc, frames)
-        }
+        TokenKind::CloseBrace => close_braces(alloc, frames),
         TokenKind::Word { word, .. } => {
-            drop(kind);
+            discard_token(kind);
             item_word(alloc, word, site, frames)
         }
         _ => inner(alloc, site, frames, kind),
@@ -269,7 +297,7 @@ fn listed(
     match with_stmt(body, stmt) {
         Ok(body) => pushed(frames, Frame::List { braces, body }),
         Err(stop) => {
-            drop(braces);
+            discard_braces(braces);
             Err(stop)
         }
     }
@@ -290,14 +318,14 @@ fn next_item(
         Some(Frame::List { braces, body }) => match listed(braces, body, stmt, frames) {
             Ok(frames) => item(alloc, site, frames, kind),
             Err(stop) => {
-                drop(kind);
+                discard_token(kind);
                 Err(stop)
             }
         },
         other => {
-            drop(other);
-            drop(kind);
-            Err(Stop::Syntax)
+            discard_token(kind);
+            drop(stmt);
+            refused_at(other, frames)
         }
     }
 }
@@ -316,9 +344,25 @@ fn next_item_below(
     match pushed(frames, frame) {
         Ok(frames) => next_item(alloc, site, stmt, frames, kind),
         Err(stop) => {
-            drop(kind);
+            discard_token(kind);
             Err(stop)
         }
+    }
+}
+
+/// An arm more, behind which a statement is due.
+fn else_due(
+    arms: Items<Arm>,
+    site: u32,
+    test: Boxed<Expr>,
+    stmt: Boxed<Stmt>,
+    frames: Pile<Frame>,
+) -> Result<Parser, Stop>
+    ensures { Gives (λ x. x) result (below_due (belows.Else (arm arms site test stmt)) frames) }
+{
+    match with_arm(arms, site, test, stmt) {
+        Ok(arms) => below_due(Below::Else { arms }, frames),
+        Err(stop) => stopped(stop, frames),
     }
 }
 
@@ -328,14 +372,32 @@ fn on_else(stmt: Boxed<Stmt>, frames: Pile<Frame>) -> Result<Parser, Stop>
     let mut frames = frames;
     match frames.pop() {
         Some(Frame::Below(Below::Then { arms, site, test })) => {
-            let arms = with_arm(arms, site, test, stmt)?;
-            below_due(Below::Else { arms }, frames)
+            else_due(arms, site, test, stmt, frames)
         }
         other => {
-            drop(other);
-            Err(Stop::Syntax)
+            drop(stmt);
+            refused_at(other, frames)
         }
     }
+}
+
+/// `while` behind the body of a `do`.
+fn do_test_due(
+    begin: u32,
+    site: u32,
+    stmt: Boxed<Stmt>,
+    frames: Pile<Frame>,
+) -> Result<Parser, Stop>
+    ensures { Gives (λ x. x) result (test_due (parts.Do begin stmt site) frames) }
+{
+    test_due(
+        Part::Do {
+            site: begin,
+            body: stmt,
+            test_site: site,
+        },
+        frames,
+    )
 }
 
 fn on_while(
@@ -348,22 +410,18 @@ fn on_while(
     ensures { Gives (λ x. x) result (on_while site stmt frames kind) }
 {
     let mut frames = frames;
-    match frames.pop() {
+    let around = frames.pop();
+    match around {
         Some(Frame::Below(Below::Do { site: begin })) => {
-            drop(kind);
-            test_due(
-                Part::Do {
-                    site: begin,
-                    body: stmt,
-                    test_site: site,
-                },
-                frames,
-            )
+            discard_frame(around);
+            discard_token(kind);
+            do_test_due(begin, site, stmt, frames)
         }
         Some(frame) => next_item_below(alloc, site, stmt, frame, frames, kind),
         None => {
-            drop(kind);
-            Err(Stop::Syntax)
+            discard_token(kind);
+            drop(stmt);
+            refused(frames)
         }
     }
 }
@@ -371,8 +429,10 @@ fn on_while(
 fn after_else(alloc: Global, stmt: Boxed<Stmt>, frames: Pile<Frame>) -> Result<Parser, Stop>
     ensures { Gives (λ x. x) result (on_else (settle true stmt frames).value (settle true stmt frames).frames) }
 {
-    let over = settle(alloc, true, stmt, frames)?;
-    on_else(over.value, over.frames)
+    match settle(alloc, true, stmt, frames) {
+        Ok(over) => on_else(over.value, over.frames),
+        Err(stop) => Err(stop),
+    }
 }
 
 fn after_while(
@@ -387,7 +447,7 @@ fn after_while(
     match settle(alloc, false, stmt, frames) {
         Ok(over) => on_while(alloc, site, over.value, over.frames, kind),
         Err(stop) => {
-            drop(kind);
+            discard_token(kind);
             Err(stop)
         }
     }
@@ -405,7 +465,7 @@ fn after_list(
     match settle(alloc, false, stmt, frames) {
         Ok(over) => next_item(alloc, site, over.value, over.frames, kind),
         Err(stop) => {
-            drop(kind);
+            discard_token(kind);
             Err(stop)
         }
     }
@@ -423,7 +483,7 @@ pub fn after(
 {
     match word_of(&kind) {
         Some(Word::Else) => {
-            drop(kind);
+            discard_token(kind);
             after_else(alloc, stmt, frames)
         }
         Some(Word::While) => after_while(alloc, site, stmt, frames, kind),
