@@ -277,7 +277,7 @@ pub fn item(alloc: Global, site: u32, frames: Pile<Frame>, kind: TokenKind) -> R
 }
 
 /// A statement more.
-fn with_stmt(body: Items<Stmt>, stmt: Boxed<Stmt>) -> Result<Items<Stmt>, Stop>
+pub fn with_stmt(body: Items<Stmt>, stmt: Boxed<Stmt>) -> Result<Items<Stmt>, Stop>
     ensures { Makes result (body ++ stmt ∷ []) }
 {
     let mut body = body;

@@ -1,16 +1,21 @@
 //! Tokens behind statements that may be over, and between the parts of a `try`.
 
-ghost use Rattle.std.specs.Prelude.{◌≡◌, Some, None};
+ghost use Rattle.std.specs.Prelude.{◌≡◌, ◌∷◌, Some, None, Err, cond};
 ghost use Rattle.js_ast.specs.declared.statement.Stmt.TheVariants as stmt;
-ghost use Rattle.js_reading.specs.Operands.{word_of};
-ghost use Rattle.js_reading.specs.Statements.{after, do_on, jump_on, return_on, throw_on, ending_on, braces_on, tried_on, catch_head_on, catch_open_on, catch_name_on, caught_by, trying_on};
-ghost use Rattle.js_step_operands.specs.Answers.{Gives};
+ghost use Rattle.js_reading.specs.Operands.{want, word_of};
+ghost use Rattle.js_reading.specs.declared.frame.Frame.TheVariants as frame;
+ghost use Rattle.js_reading.specs.declared.frame.Part.TheVariants as part;
+ghost use Rattle.js_reading.specs.Statements.{after, ends_bare, over, do_on, jump_on, return_on, throw_on, ending_on, braces_on, tried_on, catch_head_on, catch_open_on, catch_name_on, caught_by, trying_on};
+ghost use Rattle.js_step_operands.specs.Answers.{Gives, Makes};
+ghost use Rattle.js_step_operands.specs.declared.stop.Stop.TheVariants as stop;
 
 use crate::openings::ends_bare;
 use js_ast::{Catch, Identifier, Stmt};
 use js_grammar::{TokenKind, Word};
 use js_reading::{Braces, Ending, Frame, Parser, Part, Pile, Trying};
-use js_step_operands::{Stop, opens_list, word_of};
+use js_step_operands::{
+    Stop, discard_braces, discard_token, opens_list, refused, stopped, word_of,
+};
 use js_step_statements::{after, boxed, braces_due, over, trying, want_part};
 use sqlite_items::{Boxed, Items};
 use std::alloc::Global;
@@ -25,10 +30,7 @@ fn do_on(
     ensures { Gives (λ x. x) result (do_on stmt site frames kind) }
 {
     match kind {
-        TokenKind::Semicolon => {
-            drop(kind);
-            Ok(over(stmt, frames))
-        }
+        TokenKind::Semicolon => Ok(over(stmt, frames)),
         _ => after(alloc, site, stmt, frames, kind),
     }
 }
@@ -44,16 +46,14 @@ fn jump_on(
     ensures { Gives (λ x. x) result (jump_on line stmt site frames kind) }
 {
     match kind {
-        TokenKind::Semicolon => {
-            drop(kind);
-            Ok(over(stmt, frames))
-        }
+        TokenKind::Semicolon => Ok(over(stmt, frames)),
         _ => {
             if ends_bare(line, &kind) {
                 return after(alloc, site, stmt, frames, kind);
             }
-            drop(kind);
-            Err(Stop::Syntax)
+            discard_token(kind);
+            drop(stmt);
+            refused(frames)
         }
     }
 }
@@ -71,8 +71,8 @@ fn after_stmt(
     match boxed(alloc, stmt) {
         Ok(stmt) => after(alloc, site, stmt, frames, kind),
         Err(stop) => {
-            drop(kind);
-            Err(stop)
+            discard_token(kind);
+            stopped(stop, frames)
         }
     }
 }
@@ -82,6 +82,33 @@ pub fn bare_return(site: u32) -> Stmt
     ensures { result ≡ stmt.Return site None }
 {
     Stmt::Return { site, value: None }
+}
+
+/// `;` behind a `return` with no value.
+fn return_over(alloc: Global, site: u32, frames: Pile<Frame>) -> Result<Parser, Stop>
+    ensures { Makes result (over (stmt.Return site None) frames) }
+{
+    match boxed(alloc, bare_return(site)) {
+        Ok(stmt) => Ok(over(stmt, frames)),
+        Err(stop) => stopped(stop, frames),
+    }
+}
+
+/// A token other than `;` behind `return`.
+fn return_before(
+    alloc: Global,
+    line: bool,
+    begin: u32,
+    site: u32,
+    frames: Pile<Frame>,
+    kind: TokenKind,
+) -> Result<Parser, Stop>
+    ensures { Gives (λ x. x) result (cond (ends_bare line kind) (after site (stmt.Return begin None) frames kind) (want site (frame.Part (part.Return begin) ∷ frames) kind)) }
+{
+    if ends_bare(line, &kind) {
+        return after_stmt(alloc, bare_return(begin), site, frames, kind);
+    }
+    want_part(alloc, Part::Return { site: begin }, site, frames, kind)
 }
 
 fn return_on(
@@ -95,16 +122,8 @@ fn return_on(
     ensures { Gives (λ x. x) result (return_on line begin site frames kind) }
 {
     match kind {
-        TokenKind::Semicolon => {
-            drop(kind);
-            Ok(over(boxed(alloc, bare_return(begin))?, frames))
-        }
-        _ => {
-            if ends_bare(line, &kind) {
-                return after_stmt(alloc, bare_return(begin), site, frames, kind);
-            }
-            want_part(alloc, Part::Return { site: begin }, site, frames, kind)
-        }
+        TokenKind::Semicolon => return_over(alloc, begin, frames),
+        _ => return_before(alloc, line, begin, site, frames, kind),
     }
 }
 
@@ -119,8 +138,8 @@ fn throw_on(
     ensures { Gives (λ x. x) result (throw_on line begin site frames kind) }
 {
     if line {
-        drop(kind);
-        return Err(Stop::Syntax);
+        discard_token(kind);
+        return refused(frames);
     }
     want_part(alloc, Part::Throw { site: begin }, site, frames, kind)
 }
@@ -140,14 +159,8 @@ pub fn ending_on(
         Ending::Over(stmt) => after(alloc, site, stmt, frames, kind),
         Ending::Do(stmt) => do_on(alloc, stmt, site, frames, kind),
         Ending::Jump(stmt) => jump_on(alloc, line, stmt, site, frames, kind),
-        Ending::Return { site: begin } => {
-            drop(ending);
-            return_on(alloc, line, begin, site, frames, kind)
-        }
-        Ending::Throw { site: begin } => {
-            drop(ending);
-            throw_on(alloc, line, begin, site, frames, kind)
-        }
+        Ending::Return { site: begin } => return_on(alloc, line, begin, site, frames, kind),
+        Ending::Throw { site: begin } => throw_on(alloc, line, begin, site, frames, kind),
     }
 }
 
@@ -163,10 +176,18 @@ pub fn braces_on(
     match kind {
         TokenKind::OpenBrace => opens_list(alloc, braces, frames),
         _ => {
-            drop(braces);
-            Err(Stop::Syntax)
+            discard_braces(braces);
+            refused(frames)
         }
     }
+}
+
+/// The token can't stand here, between the parts of a `try`.
+fn refused_try(body: Items<Stmt>, frames: Pile<Frame>) -> Result<Parser, Stop>
+    ensures { result ≡ Err stop.Syntax }
+{
+    drop(body);
+    refused(frames)
 }
 
 fn tried_on(
@@ -187,7 +208,7 @@ fn tried_on(
             },
             frames,
         ),
-        _ => Err(Stop::Syntax),
+        _ => refused_try(body, frames),
     }
 }
 
@@ -213,7 +234,7 @@ fn catch_head_on(
                 frames,
             )
         }
-        _ => Err(Stop::Syntax),
+        _ => refused_try(body, frames),
     }
 }
 
@@ -232,8 +253,8 @@ fn catch_open_on(
             trying(Trying::CatchName { site, body, name }, frames)
         }
         other => {
-            drop(other);
-            Err(Stop::Syntax)
+            discard_token(other);
+            refused_try(body, frames)
         }
     }
 }
@@ -258,7 +279,10 @@ fn catch_name_on(
                 frames,
             )
         }
-        _ => Err(Stop::Syntax),
+        _ => {
+            drop(name);
+            refused_try(body, frames)
+        }
     }
 }
 
@@ -287,7 +311,7 @@ fn caught_on(
 {
     match word_of(&kind) {
         Some(Word::Finally) => {
-            drop(kind);
+            discard_token(kind);
             let catch = Some(catch);
             braces_due(
                 Braces::Finally {
@@ -315,18 +339,18 @@ pub fn trying_on(
     match trying {
         Trying::Tried { site, body } => {
             let parser = tried_on(site, body, frames, &kind);
-            drop(kind);
+            discard_token(kind);
             parser
         }
         Trying::CatchHead { site, body } => {
             let parser = catch_head_on(alloc, site, body, frames, &kind);
-            drop(kind);
+            discard_token(kind);
             parser
         }
         Trying::CatchOpen { site, body } => catch_open_on(site, body, at, frames, kind),
         Trying::CatchName { site, body, name } => {
             let parser = catch_name_on(site, body, name, frames, &kind);
-            drop(kind);
+            discard_token(kind);
             parser
         }
         Trying::Caught { site, body, catch } => {
