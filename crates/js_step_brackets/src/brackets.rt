@@ -1,11 +1,9 @@
 //! Marks that end an expression between brackets.
 
 ghost use Rattle.std.specs.Prelude.{◌≡◌, ◌∷◌, ◌++◌, []};
-ghost use Rattle.js_reading.specs.Operands.{close_round_in, close_square_in, is_alone, on_square_close, on_colon_in, on_colon, comma_in, comma_names, comma_round, round_of, at, primary, wants, want_close_in};
+ghost use Rattle.js_reading.specs.Operands.{close_round_in, close_square_in, is_alone, on_square_close, on_colon_in, on_colon, comma_in, comma_names, comma_round, round_of, at, wants, want_close_in};
 ghost use Rattle.js_reading.specs.declared.frame.Bracket.TheVariants as bracket;
 ghost use Rattle.js_reading.specs.declared.frame.Frame.TheVariants as frame;
-ghost use Rattle.js_reading.specs.declared.mode.Header.TheVariants as headers;
-ghost use Rattle.js_reading.specs.declared.mode.Heading.TheVariants as headings;
 ghost use Rattle.js_reading.specs.declared.mode.Mode.TheVariants as mode;
 ghost use Rattle.js_reading.specs.declared.mode.Piece.TheVariants as piece;
 ghost use Rattle.js_step_brackets.specs.Lists.{with_expression};
@@ -139,22 +137,6 @@ pub fn round_of(frames: &Pile<Frame>) -> Option<u32>
     }
 }
 
-/// `]` behind the last expression of an array.
-fn close_array(
-    alloc: Global,
-    site: u32,
-    items: Items<Boxed<Expr>>,
-    value: Boxed<Expr>,
-    frames: Pile<Frame>,
-) -> Result<Parser, Stop>
-    ensures { Gives (λ x. x) result (primary site (Expr.Array site (items ++ value ∷ [])) frames) }
-{
-    match listed(items, value) {
-        Ok(items) => primary(alloc, site, Expr::Array { site, items }, frames),
-        Err(stop) => stopped(stop, frames),
-    }
-}
-
 fn close_square_in(
     alloc: Global,
     is_static: bool,
@@ -166,7 +148,10 @@ fn close_square_in(
     let mut frames = frames;
     match frames.pop() {
         Some(Frame::Bracket(Bracket::Array { site, items })) => {
-            close_array(alloc, site, items, value, frames)
+            match listed(items, value) {
+                Ok(items) => primary(alloc, site, Expr::Array { site, items }, frames),
+                Err(stop) => stopped(stop, frames),
+            }
         }
         Some(
             Frame::Bracket(
@@ -178,15 +163,14 @@ fn close_square_in(
                 },
             ),
         ) => {
-            let last = Access::Index {
-                site,
-                is_static,
-                key: value,
-            };
             let operand = Operand::Access {
                 first,
                 earlier: suffixes,
-                last,
+                last: Access::Index {
+                    site,
+                    is_static,
+                    key: value,
+                },
             };
             Ok(reached(start, operand, frames))
         }
@@ -348,24 +332,6 @@ pub fn with_name(names: Items<Identifier>, name: Identifier) -> Result<Items<Ide
     Ok(names)
 }
 
-/// The first of an arrow's parameters.
-fn first_name(
-    alloc: Global,
-    start: u32,
-    name: Identifier,
-    frames: Pile<Frame>,
-) -> Result<Parser, Stop>
-    ensures { Makes result (at (mode.Heading (headings.Parameters (headers.Arrow start) (name ∷ []))) frames) }
-{
-    match with_name(Items::new(alloc), name) {
-        Ok(names) => {
-            let header = Header::Arrow { start };
-            heading(Heading::Parameters { header, names }, frames)
-        }
-        Err(stop) => stopped(stop, frames),
-    }
-}
-
 /// A comma behind the first name between parentheses: those of an arrow.
 fn comma_names(
     alloc: Global,
@@ -376,7 +342,13 @@ fn comma_names(
     ensures { Gives (λ x. x) result (comma_names start name frames) }
 {
     if takes_assign(&frames) {
-        return first_name(alloc, start, name, frames);
+        return match with_name(Items::new(alloc), name) {
+            Ok(names) => {
+                let header = Header::Arrow { start };
+                heading(Heading::Parameters { header, names }, frames)
+            }
+            Err(stop) => stopped(stop, frames),
+        };
     }
     drop(name);
     refused(frames)

@@ -1,12 +1,9 @@
 //! The beginnings of operands, and parameters.
 
-ghost use Rattle.std.specs.Prelude.{◌≡◌, ◌∷◌, ◌++◌, [], Err};
-ghost use Rattle.js_ast.specs.declared.parts.Member.TheVariants as member;
+ghost use Rattle.std.specs.Prelude.{◌≡◌, Err};
 ghost use Rattle.js_grammar.specs.Phrases.{is_proto};
-ghost use Rattle.js_reading.specs.Operands.{object, name_key, text_key, key_on, to_value, name_key_on, other_key_on, new_on, new_name_on, property, property_on, function_on, piece_on, headed, open_on, parameters_on, parameter_on, arrow_due_on, at};
-ghost use Rattle.js_reading.specs.declared.mode.Heading.TheVariants as headings;
-ghost use Rattle.js_reading.specs.declared.mode.Mode.TheVariants as mode;
-ghost use Rattle.js_step_operands.specs.Answers.{Gives, Makes};
+ghost use Rattle.js_reading.specs.Operands.{object, name_key, text_key, key_on, to_value, name_key_on, other_key_on, new_on, new_name_on, property, property_on, function_on, piece_on, headed, open_on, parameters_on, parameter_on, arrow_due_on};
+ghost use Rattle.js_step_operands.specs.Answers.{Gives};
 ghost use Rattle.js_step_operands.specs.declared.stop.Stop.TheVariants as stop;
 
 use crate::brackets::{comma_member, with_member, with_name};
@@ -150,22 +147,6 @@ fn to_value(
     )
 }
 
-/// `}` behind the last member, a name alone.
-fn last_shorthand(
-    alloc: Global,
-    site: u32,
-    members: Items<Member<Boxed<Expr>>>,
-    name: Identifier,
-    frames: Pile<Frame>,
-) -> Result<Parser, Stop>
-    ensures { Gives (λ x. x) result (object site (members ++ member.Shorthand name ∷ []) frames) }
-{
-    match with_member(members, Member::Shorthand(name)) {
-        Ok(members) => object(alloc, site, members, frames),
-        Err(stop) => stopped(stop, frames),
-    }
-}
-
 fn name_key_on(
     alloc: Global,
     site: u32,
@@ -185,7 +166,10 @@ fn name_key_on(
             to_value(site, members, key_site, Key::Text(name), frames)
         }
         TokenKind::Comma => comma_member(site, members, Member::Shorthand(name), frames),
-        TokenKind::CloseBrace => last_shorthand(alloc, site, members, name, frames),
+        TokenKind::CloseBrace => match with_member(members, Member::Shorthand(name)) {
+            Ok(members) => object(alloc, site, members, frames),
+            Err(stop) => stopped(stop, frames),
+        },
         _ => {
             drop(name);
             refused_member(members, frames)
@@ -425,24 +409,6 @@ fn refused_parameter(
     refused(frames)
 }
 
-/// A parameter more.
-fn parameter(
-    header: Header,
-    names: Items<Identifier>,
-    name: Identifier,
-    frames: Pile<Frame>,
-) -> Result<Parser, Stop>
-    ensures { Makes result (at (mode.Heading (headings.Parameter header (names ++ name ∷ []))) frames) }
-{
-    match with_name(names, name) {
-        Ok(names) => heading(Heading::Parameter { header, names }, frames),
-        Err(stop) => {
-            drop(header);
-            stopped(stop, frames)
-        }
-    }
-}
-
 /// A parameter, or the end of them.
 pub fn parameters_on(
     header: Header,
@@ -454,7 +420,13 @@ pub fn parameters_on(
     ensures { Gives (λ x. x) result (parameters_on header names at frames kind) }
 {
     match kind {
-        TokenKind::Name(name) => parameter(header, names, Identifier { site: at, name }, frames),
+        TokenKind::Name(name) => match with_name(names, Identifier { site: at, name }) {
+            Ok(names) => heading(Heading::Parameter { header, names }, frames),
+            Err(stop) => {
+                drop(header);
+                stopped(stop, frames)
+            }
+        },
         TokenKind::CloseRound => heading(headed(header, names), frames),
         other => {
             discard_token(other);

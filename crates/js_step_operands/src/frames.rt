@@ -111,89 +111,55 @@ pub fn logical_links(
     Ok(links)
 }
 
-/// A chain that ends with its right side.
-fn join_binary(
-    alloc: Global,
-    first: Boxed<Expr>,
-    links: Items<Link<BinaryOp, Boxed<Expr>>>,
-    site: u32,
-    op: BinaryOp,
-    right: Boxed<Expr>,
-) -> Result<Boxed<Expr>, Stop>
-    ensures { Makes result (Expr.Binary first (links ++ record { site = site; op = op; right = right } ∷ [])) }
-{
-    match binary_links(links, site, op, right) {
-        Ok(links) => boxed(alloc, Expr::Binary { first, links }),
-        Err(stop) => {
-            discard_value(first);
-            Err(stop)
-        }
-    }
-}
-
-/// The same for `&&`, `||` and `??`.
-fn join_logical(
-    alloc: Global,
-    first: Boxed<Expr>,
-    links: Items<Link<LogicalOp, Boxed<Expr>>>,
-    site: u32,
-    op: LogicalOp,
-    right: Boxed<Expr>,
-) -> Result<Boxed<Expr>, Stop>
-    ensures { Makes result (Expr.Logical first (links ++ record { site = site; op = op; right = right } ∷ [])) }
-{
-    match logical_links(links, site, op, right) {
-        Ok(links) => boxed(alloc, Expr::Logical { first, links }),
-        Err(stop) => {
-            discard_value(first);
-            Err(stop)
-        }
-    }
-}
-
 /// The whole, once its right side is there.
 fn join(alloc: Global, pending: Pending, value: Boxed<Expr>) -> Result<Boxed<Expr>, Stop>
     ensures { Makes result (join pending value) }
 {
-    match pending {
-        Pending::Prefix { site, op } => boxed(
-            alloc,
-            Expr::Unary {
-                site,
-                op,
-                operand: value,
-            },
-        ),
+    let whole = match pending {
+        Pending::Prefix { site, op } => Expr::Unary {
+            site,
+            op,
+            operand: value,
+        },
         Pending::Binary {
             first,
             links,
             site,
             op,
             ..
-        } => join_binary(alloc, first, links, site, op, value),
+        } => match binary_links(links, site, op, value) {
+            Ok(links) => Expr::Binary { first, links },
+            Err(stop) => {
+                discard_value(first);
+                return Err(stop);
+            }
+        },
         Pending::Logical {
             first,
             links,
             site,
             op,
             ..
-        } => join_logical(alloc, first, links, site, op, value),
+        } => match logical_links(links, site, op, value) {
+            Ok(links) => Expr::Logical { first, links },
+            Err(stop) => {
+                discard_value(first);
+                return Err(stop);
+            }
+        },
         Pending::Conditional {
             start,
             site,
             test,
             consequent,
         } => {
-            boxed(
-                alloc,
-                Expr::Conditional {
-                    start,
-                    site,
-                    test,
-                    consequent,
-                    alternate: value,
-                },
-            )
+            Expr::Conditional {
+                start,
+                site,
+                test,
+                consequent,
+                alternate: value,
+            }
         }
         Pending::Assign {
             start,
@@ -201,26 +167,21 @@ fn join(alloc: Global, pending: Pending, value: Boxed<Expr>) -> Result<Boxed<Exp
             op,
             target,
         } => {
-            boxed(
-                alloc,
-                Expr::Assign {
-                    start,
-                    site,
-                    op,
-                    target,
-                    value,
-                },
-            )
-        }
-        Pending::Arrow { start, parameters } => boxed(
-            alloc,
-            Expr::Arrow {
-                site: start,
-                parameters,
+            Expr::Assign {
+                start,
+                site,
+                op,
+                target,
                 value,
-            },
-        ),
-    }
+            }
+        }
+        Pending::Arrow { start, parameters } => Expr::Arrow {
+            site: start,
+            parameters,
+            value,
+        },
+    };
+    boxed(alloc, whole)
 }
 
 /// An expression inside a frame that is put back.

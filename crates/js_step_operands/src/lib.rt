@@ -23,6 +23,6 @@ pub use refusals::{
 };
 pub use stop::Stop;
 pub use wanting::{
-    below_due, called, heading, opens_list, piece, primary, reached, want, want_close_in, want_word,
-    wants, word_of,
+    below_due, called, heading, opens_list, piece, primary, reached, want, want_close_in,
+    want_word, wants, word_of,
 };

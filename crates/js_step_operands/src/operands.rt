@@ -6,7 +6,6 @@ ghost use Rattle.js_ast.specs.declared.parts.Target.TheVariants as target;
 ghost use Rattle.js_grammar.specs.Grammar.{call_of};
 ghost use Rattle.js_ast.specs.declared.parts.Suffix.TheVariants as suffix;
 ghost use Rattle.js_reading.specs.Operands.{value_of, tail_of, target_of, parameter_of, first_of, suffixes_of, wrapped, is_literal};
-ghost use Rattle.js_reading.specs.declared.mode.Operand.TheVariants as operands;
 ghost use Rattle.js_step_operands.specs.Answers.{Gives, Makes};
 
 use crate::refusals::{discard_operand, discard_value};
@@ -197,36 +196,6 @@ pub fn parameter_of(operand: Operand) -> Result<Identifier, Stop>
     }
 }
 
-/// A call's first part, and its suffixes with the last one.
-fn accessed_parts(
-    first: Boxed<Expr>,
-    earlier: Items<Suffix<Boxed<Expr>>>,
-    last: Access<Boxed<Expr>>,
-) -> Result<(Boxed<Expr>, Items<Suffix<Boxed<Expr>>>), Stop>
-    ensures { Makes result (first, earlier ++ suffix.Access last ∷ []) }
-{
-    match suffixed(earlier, Suffix::Access(last)) {
-        Ok(suffixes) => Ok((first, suffixes)),
-        Err(stop) => {
-            discard_value(first);
-            Err(stop)
-        }
-    }
-}
-
-/// The whole operand, with no suffix behind it.
-fn whole_parts(
-    alloc: Global,
-    operand: Operand,
-) -> Result<(Boxed<Expr>, Items<Suffix<Boxed<Expr>>>), Stop>
-    ensures { Makes result (value_of operand, []) }
-{
-    match value_of(alloc, operand) {
-        Ok(value) => Ok((value, Items::new(alloc))),
-        Err(stop) => Err(stop),
-    }
-}
-
 /// The first part of a call, and the suffixes behind it.
 pub fn call_parts(
     alloc: Global,
@@ -239,19 +208,18 @@ pub fn call_parts(
             first,
             earlier,
             last,
-        } => accessed_parts(first, earlier, last),
+        } => match suffixed(earlier, Suffix::Access(last)) {
+            Ok(suffixes) => Ok((first, suffixes)),
+            Err(stop) => {
+                discard_value(first);
+                Err(stop)
+            }
+        },
         Operand::Call { first, suffixes } => Ok((first, suffixes)),
-        operand => whole_parts(alloc, operand),
-    }
-}
-
-/// An operand that isn't a target.
-fn wrapped_whole(alloc: Global, operand: Operand) -> Result<Operand, Stop>
-    ensures { Makes result (operands.Primary (value_of operand)) }
-{
-    match value_of(alloc, operand) {
-        Ok(value) => Ok(Operand::Primary(value)),
-        Err(stop) => Err(stop),
+        operand => match value_of(alloc, operand) {
+            Ok(value) => Ok((value, Items::new(alloc))),
+            Err(stop) => Err(stop),
+        },
     }
 }
 
@@ -283,7 +251,10 @@ pub fn wrapped(alloc: Global, operand: Operand) -> Result<Operand, Stop>
                 last,
             })
         }
-        operand => wrapped_whole(alloc, operand),
+        operand => match value_of(alloc, operand) {
+            Ok(value) => Ok(Operand::Primary(value)),
+            Err(stop) => Err(stop),
+        },
     }
 }
 

@@ -1,4 +1,5 @@
 //! What is let go of where a step isn't taken. It ends here, so that no crate above spells out all that frames hold.
+//! For the same reason the steps hand errors on by `match`: `?` is a generic call at those types in each of them.
 
 ghost use Rattle.std.specs.Prelude.{◌≡◌, Err};
 ghost use Rattle.js_step_operands.specs.declared.stop.Stop.TheVariants as stop;

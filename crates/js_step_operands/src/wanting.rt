@@ -174,21 +174,6 @@ fn opens_object(alloc: Global, site: u32, frames: Pile<Frame>) -> Result<Parser,
     piece(Piece::Key { site, members }, frames)
 }
 
-/// The same inside a frame that is put back.
-fn opens_object_in(
-    alloc: Global,
-    site: u32,
-    frame: Frame,
-    frames: Pile<Frame>,
-) -> Result<Parser, Stop>
-    ensures { Makes result (at (mode.Piece (pieces.Key site [])) (frame ∷ frames)) }
-{
-    match pushed(frames, frame) {
-        Ok(frames) => opens_object(alloc, site, frames),
-        Err(stop) => Err(stop),
-    }
-}
-
 /// An arrow's body directly behind `=>`, else an object.
 fn want_brace(alloc: Global, site: u32, frames: Pile<Frame>) -> Result<Parser, Stop>
     ensures { Gives (λ x. x) result (want_brace site frames) }
@@ -199,7 +184,10 @@ fn want_brace(alloc: Global, site: u32, frames: Pile<Frame>) -> Result<Parser, S
         Some(Frame::Pending(Pending::Arrow { start, parameters })) => {
             opens_list(alloc, Braces::Arrow { start, parameters }, frames)
         }
-        Some(frame) => opens_object_in(alloc, site, frame, frames),
+        Some(frame) => match pushed(frames, frame) {
+            Ok(frames) => opens_object(alloc, site, frames),
+            Err(stop) => Err(stop),
+        },
     }
 }
 

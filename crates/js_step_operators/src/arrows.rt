@@ -35,22 +35,6 @@ fn alone(alloc: Global, name: Identifier) -> Result<Items<Identifier>, Stop>
     Ok(names)
 }
 
-/// `=>` behind the one parameter.
-fn to_arrow_of(
-    alloc: Global,
-    line: bool,
-    start: u32,
-    name: Identifier,
-    frames: Pile<Frame>,
-) -> Result<Parser, Stop>
-    ensures { Gives (λ x. x) result (to_arrow line start (name ∷ []) frames) }
-{
-    match alone(alloc, name) {
-        Ok(names) => to_arrow(line, start, names, frames),
-        Err(stop) => stopped(stop, frames),
-    }
-}
-
 /// `=>` behind a name.
 pub fn on_arrow(
     alloc: Global,
@@ -64,7 +48,10 @@ pub fn on_arrow(
     match parameter_of(operand) {
         Ok(name) => {
             if takes_assign(&frames) {
-                return to_arrow_of(alloc, line, start, name, frames);
+                return match alone(alloc, name) {
+                    Ok(names) => to_arrow(line, start, names, frames),
+                    Err(stop) => stopped(stop, frames),
+                };
             }
             drop(name);
             refused(frames)

@@ -122,7 +122,15 @@ fn place_binary_in(
             Err(stop) => stopped(stop, frames),
         };
     }
-    opens_binary_in(alloc, op, site, start, value, Frame::Pending(pending), frames)
+    opens_binary_in(
+        alloc,
+        op,
+        site,
+        start,
+        value,
+        Frame::Pending(pending),
+        frames,
+    )
 }
 
 /// A chain begins, or goes on.

@@ -1,7 +1,7 @@
 //! What ends with an operand.
 
-ghost use Rattle.std.specs.Prelude.{true, ◌∷◌, Some, option_and_then};
-ghost use Rattle.js_reading.specs.Operands.{settled, closed, whole, value_of, target_of};
+ghost use Rattle.std.specs.Prelude.{true, ◌∷◌};
+ghost use Rattle.js_reading.specs.Operands.{settled, closed, whole, value_of};
 ghost use Rattle.js_reading.specs.declared.frame.Frame.TheVariants as frame;
 ghost use Rattle.js_step_operands.specs.Answers.{Gives, Makes};
 
@@ -52,35 +52,6 @@ fn plain(alloc: Global, start: u32, operand: Operand, frames: Pile<Frame>) -> Re
     }
 }
 
-/// The same inside a frame that is put back.
-fn plain_in(
-    alloc: Global,
-    start: u32,
-    operand: Operand,
-    frame: Frame,
-    frames: Pile<Frame>,
-) -> Result<Closed, Stop>
-    ensures { Makes result (record { start = start; value = value_of operand; frames = frame ∷ frames }) }
-{
-    match pushed(frames, frame) {
-        Ok(frames) => plain(alloc, start, operand, frames),
-        Err(stop) => {
-            discard_operand(operand);
-            Err(stop)
-        }
-    }
-}
-
-/// The tree of `++` or `--` and the operand.
-fn step_tree(alloc: Global, site: u32, op: StepOp, operand: Operand) -> Result<Boxed<Expr>, Stop>
-    ensures { Gives (λ x. x) result (option_and_then (λ t. Some (Expr.Step site site op true t)) (target_of operand)) }
-{
-    match target_of(alloc, operand) {
-        Ok(target) => prefix_step(alloc, site, op, target),
-        Err(stop) => Err(stop),
-    }
-}
-
 /// `++` or `--` ends with its operand.
 fn stepped(
     alloc: Global,
@@ -91,12 +62,18 @@ fn stepped(
 ) -> Result<Closed, Stop>
     ensures { Gives (λ x. x) result (settled site operand (frame.Step site op ∷ frames)) }
 {
-    match step_tree(alloc, site, op, operand) {
-        Ok(value) => Ok(Closed {
-            start: site,
-            value,
-            frames,
-        }),
+    match target_of(alloc, operand) {
+        Ok(target) => match prefix_step(alloc, site, op, target) {
+            Ok(value) => Ok(Closed {
+                start: site,
+                value,
+                frames,
+            }),
+            Err(stop) => {
+                discard(frames);
+                Err(stop)
+            }
+        },
         Err(stop) => {
             discard(frames);
             Err(stop)
@@ -116,7 +93,13 @@ fn settled(alloc: Global, start: u32, operand: Operand, frames: Pile<Frame>) -> 
             discard_frame(around);
             stepped(alloc, site, op, operand, frames)
         }
-        Some(frame) => plain_in(alloc, start, operand, frame, frames),
+        Some(frame) => match pushed(frames, frame) {
+            Ok(frames) => plain(alloc, start, operand, frames),
+            Err(stop) => {
+                discard_operand(operand);
+                Err(stop)
+            }
+        },
     }
 }
 
@@ -131,11 +114,13 @@ pub fn closed(
     ensures { Gives (λ x. x) result (closed level start operand frames) }
 {
     match settled(alloc, start, operand, frames) {
-        Ok(Closed {
-            start,
-            value,
-            frames,
-        }) => close_to(alloc, level, start, value, frames),
+        Ok(
+            Closed {
+                start,
+                value,
+                frames,
+            },
+        ) => close_to(alloc, level, start, value, frames),
         Err(stop) => Err(stop),
     }
 }

@@ -1,10 +1,6 @@
 //! Tokens that go on with the expression behind an operand.
 
-ghost use Rattle.std.specs.Prelude.{Some};
-ghost use Rattle.js_reading.specs.Frames.{when, takes_assign};
-ghost use Rattle.js_reading.specs.Operands.{on_question, on_assign, wants};
-ghost use Rattle.js_reading.specs.declared.frame.Frame.TheVariants as frame;
-ghost use Rattle.js_reading.specs.declared.frame.Pending.TheVariants as pending;
+ghost use Rattle.js_reading.specs.Operands.{on_question, on_assign};
 ghost use Rattle.js_reading.specs.Reading.{continues_by};
 ghost use Rattle.js_step_operands.specs.Answers.{Gives};
 
@@ -12,14 +8,13 @@ use crate::binary::on_binary;
 use crate::closing::closed;
 use crate::logical::on_logical;
 use crate::suffixes::{on_dot, on_round, on_square};
-use js_ast::{BinaryOp, Expr, Target};
+use js_ast::BinaryOp;
 use js_grammar::TokenKind;
 use js_reading::{Bracket, Closed, Frame, Operand, Parser, Pending, Pile};
 use js_step_operands::{
     CONDITIONAL, Stop, discard_operand, discard_token, refused, stopped, takes_assign, target_of,
     wants,
 };
-use sqlite_items::Boxed;
 use std::alloc::Global;
 
 fn on_question(
@@ -32,11 +27,13 @@ fn on_question(
     ensures { Gives (λ x. x) result (on_question site start operand frames) }
 {
     match closed(alloc, CONDITIONAL, start, operand, frames) {
-        Ok(Closed {
-            start,
-            value,
-            frames,
-        }) => wants(
+        Ok(
+            Closed {
+                start,
+                value,
+                frames,
+            },
+        ) => wants(
             Frame::Bracket(Bracket::Question {
                 start,
                 site,
@@ -46,31 +43,6 @@ fn on_question(
         ),
         Err(stop) => Err(stop),
     }
-}
-
-/// A value is due, where an assignment may begin.
-fn assigns(
-    op: Option<BinaryOp>,
-    site: u32,
-    start: u32,
-    target: Target<Boxed<Expr>>,
-    frames: Pile<Frame>,
-) -> Result<Parser, Stop>
-    ensures { Gives (λ x. x) result (when (takes_assign frames) (Some (wants (frame.Pending (pending.Assign start site op target)) frames))) }
-{
-    if takes_assign(&frames) {
-        return wants(
-            Frame::Pending(Pending::Assign {
-                start,
-                site,
-                op,
-                target,
-            }),
-            frames,
-        );
-    }
-    drop(target);
-    refused(frames)
 }
 
 fn on_assign(
@@ -84,7 +56,21 @@ fn on_assign(
     ensures { Gives (λ x. x) result (on_assign op site start operand frames) }
 {
     match target_of(alloc, operand) {
-        Ok(target) => assigns(op, site, start, target, frames),
+        Ok(target) => {
+            if takes_assign(&frames) {
+                return wants(
+                    Frame::Pending(Pending::Assign {
+                        start,
+                        site,
+                        op,
+                        target,
+                    }),
+                    frames,
+                );
+            }
+            drop(target);
+            refused(frames)
+        }
         Err(stop) => stopped(stop, frames),
     }
 }

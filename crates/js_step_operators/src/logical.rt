@@ -1,7 +1,6 @@
 //! `&&`, `||` and `??` behind an operand.
 
-ghost use Rattle.std.specs.Prelude.{◌≡◌, ◌∷◌, Some};
-ghost use Rattle.js_reading.specs.Frames.{when};
+ghost use Rattle.std.specs.Prelude.{◌≡◌, ◌∷◌};
 ghost use Rattle.js_reading.specs.Operands.{closed, goes_on, goes_inside, level_of, opens_logical, place_logical, on_logical};
 ghost use Rattle.js_reading.specs.declared.frame.Frame.TheVariants as frame;
 ghost use Rattle.js_step_operands.specs.Answers.{Gives, Makes};
@@ -144,33 +143,6 @@ fn link_logical(
     }
 }
 
-/// A chain begins inside another, where one may.
-fn place_inside(
-    alloc: Global,
-    op: LogicalOp,
-    site: u32,
-    start: u32,
-    value: Boxed<Expr>,
-    pending: Pending,
-    frames: Pile<Frame>,
-) -> Result<Parser, Stop>
-    ensures { Gives (λ x. x) result (when (takes_logical pending op) (Some (opens_logical op site start value (frame.Pending pending ∷ frames)))) }
-{
-    if takes_logical(&pending, op) {
-        return opens_logical_in(
-            alloc,
-            op,
-            site,
-            start,
-            value,
-            Frame::Pending(pending),
-            frames,
-        );
-    }
-    discard_value(value);
-    refused_at(Some(Frame::Pending(pending)), frames)
-}
-
 /// A chain begins, or goes on, where an operator stands to the left.
 fn place_logical_in(
     alloc: Global,
@@ -189,7 +161,19 @@ fn place_logical_in(
             Err(stop) => stopped(stop, frames),
         };
     }
-    place_inside(alloc, op, site, start, value, pending, frames)
+    if takes_logical(&pending, op) {
+        return opens_logical_in(
+            alloc,
+            op,
+            site,
+            start,
+            value,
+            Frame::Pending(pending),
+            frames,
+        );
+    }
+    discard_value(value);
+    refused_at(Some(Frame::Pending(pending)), frames)
 }
 
 fn place_logical(alloc: Global, op: LogicalOp, site: u32, closed: Closed) -> Result<Parser, Stop>

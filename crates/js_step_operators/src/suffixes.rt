@@ -1,7 +1,6 @@
 //! `++`, `--` and suffixes behind an operand.
 
-ghost use Rattle.std.specs.Prelude.{false, Some};
-ghost use Rattle.js_reading.specs.Frames.{when, takes_unary};
+ghost use Rattle.std.specs.Prelude.{false};
 ghost use Rattle.js_reading.specs.Operands.{reached, on_step, on_dot, on_round, on_square};
 ghost use Rattle.js_reading.specs.declared.mode.Operand.TheVariants as operand;
 ghost use Rattle.js_step_operands.specs.Answers.{Gives, Makes};
@@ -38,24 +37,6 @@ fn postfix(
     }
 }
 
-/// `++` or `--` behind a target, where one may stand.
-fn steps(
-    alloc: Global,
-    op: StepOp,
-    site: u32,
-    start: u32,
-    target: Target<Boxed<Expr>>,
-    frames: Pile<Frame>,
-) -> Result<Parser, Stop>
-    ensures { Gives (λ x. x) result (when (takes_unary frames) (Some (reached start (operand.Stepped (Expr.Step start site op false target)) frames))) }
-{
-    if takes_unary(&frames) {
-        return postfix(alloc, op, site, start, target, frames);
-    }
-    drop(target);
-    refused(frames)
-}
-
 /// `++` or `--` behind an operand.
 pub fn on_step(
     alloc: Global,
@@ -68,7 +49,13 @@ pub fn on_step(
     ensures { Gives (λ x. x) result (on_step op site start operand frames) }
 {
     match target_of(alloc, operand) {
-        Ok(target) => steps(alloc, op, site, start, target, frames),
+        Ok(target) => {
+            if takes_unary(&frames) {
+                return postfix(alloc, op, site, start, target, frames);
+            }
+            drop(target);
+            refused(frames)
+        }
         Err(stop) => stopped(stop, frames),
     }
 }

@@ -1,6 +1,6 @@
 //! What ends with a statement, or with the braces around a list.
 
-ghost use Rattle.std.specs.Prelude.{◌≡◌, ◌∷◌, None};
+ghost use Rattle.std.specs.Prelude.{◌≡◌, ◌∷◌};
 ghost use Rattle.js_reading.specs.Operands.{at, reached};
 ghost use Rattle.js_reading.specs.declared.mode.Operand.TheVariants as operand;
 ghost use Rattle.js_reading.specs.declared.mode.Mode.TheVariants as mode;
@@ -34,66 +34,41 @@ pub fn with_arm(
     Ok(arms)
 }
 
-/// An `if` whose last arm has no `else`.
-fn joined_then(
-    alloc: Global,
-    arms: Items<Arm>,
-    site: u32,
-    test: Boxed<Expr>,
-    stmt: Boxed<Stmt>,
-) -> Result<Boxed<Stmt>, Stop>
-    ensures { Makes result (Stmt.If (arm arms site test stmt) None) }
-{
-    match with_arm(arms, site, test, stmt) {
-        Ok(arms) => boxed(
-            alloc,
-            Stmt::If {
-                arms,
-                alternate: None,
-            },
-        ),
-        Err(stop) => Err(stop),
-    }
-}
-
 /// The whole, once the statement below is there.
 fn joined(alloc: Global, below: Below, stmt: Boxed<Stmt>) -> Result<Boxed<Stmt>, Stop>
     ensures { Makes result (joined below stmt) }
 {
-    match below {
-        Below::Then { arms, site, test } => joined_then(alloc, arms, site, test, stmt),
-        Below::Else { arms } => boxed(
-            alloc,
-            Stmt::If {
+    let whole = match below {
+        Below::Then { arms, site, test } => match with_arm(arms, site, test, stmt) {
+            Ok(arms) => Stmt::If {
                 arms,
-                alternate: Some(stmt),
+                alternate: None,
             },
-        ),
-        Below::While { site, test } => boxed(
-            alloc,
-            Stmt::While {
-                site,
-                test,
-                body: stmt,
-            },
-        ),
-        Below::Do { .. } => Ok(stmt),
+            Err(stop) => return Err(stop),
+        },
+        Below::Else { arms } => Stmt::If {
+            arms,
+            alternate: Some(stmt),
+        },
+        Below::While { site, test } => Stmt::While {
+            site,
+            test,
+            body: stmt,
+        },
+        Below::Do { .. } => return Ok(stmt),
         Below::For {
             site,
             head,
             test,
             update,
         } => {
-            boxed(
-                alloc,
-                Stmt::For {
-                    site,
-                    head,
-                    test,
-                    update,
-                    body: stmt,
-                },
-            )
+            Stmt::For {
+                site,
+                head,
+                test,
+                update,
+                body: stmt,
+            }
         }
         Below::ForOf {
             site,
@@ -101,18 +76,16 @@ fn joined(alloc: Global, below: Below, stmt: Boxed<Stmt>) -> Result<Boxed<Stmt>,
             name,
             items,
         } => {
-            boxed(
-                alloc,
-                Stmt::ForOf {
-                    site,
-                    kind,
-                    name,
-                    items,
-                    body: stmt,
-                },
-            )
+            Stmt::ForOf {
+                site,
+                kind,
+                name,
+                items,
+                body: stmt,
+            }
         }
-    }
+    };
+    boxed(alloc, whole)
 }
 
 /// Whether a word is awaited behind the statement below: `while`, or `else` where one is there.

@@ -1,12 +1,7 @@
 //! Marks behind an expression that is a part of a statement.
 
-ghost use Rattle.std.specs.Prelude.{◌≡◌, ◌∷◌, ◌++◌, [], Some, option_and_then};
-ghost use Rattle.js_ast.specs.declared.parts.LoopHead.TheVariants as head;
-ghost use Rattle.js_reading.specs.Frames.{when};
-ghost use Rattle.js_reading.specs.Operands.{wants};
-ghost use Rattle.js_reading.specs.declared.frame.Frame.TheVariants as frame;
-ghost use Rattle.js_reading.specs.declared.frame.Part.TheVariants as part;
-ghost use Rattle.js_reading.specs.Statements.{with_declarator, is_statement, is_let, of_part, over_of, over, semicolon_part, close_round_part, comma_part, declared, declares_more, declaration_over, do_over, bare};
+ghost use Rattle.std.specs.Prelude.{◌≡◌, ◌∷◌, ◌++◌, []};
+ghost use Rattle.js_reading.specs.Statements.{is_statement, is_let, of_part, over_of, over, semicolon_part, close_round_part, comma_part, declared, declares_more, declaration_over, do_over, bare};
 ghost use Rattle.js_reading.specs.Reading.{semicolon_of, on_semicolon};
 ghost use Rattle.js_step_operands.specs.Answers.{Gives, Makes};
 
@@ -96,30 +91,20 @@ pub fn bare(alloc: Global, declaring: Declaring, name: Identifier) -> Result<Box
     declared(alloc, declaring, name, None)
 }
 
-/// A declaration that is a statement ends with its value.
-fn declared_with(
-    alloc: Global,
-    declaring: Declaring,
-    name: Identifier,
-    value: Boxed<Expr>,
-) -> Result<Boxed<Stmt>, Stop>
-    ensures { Gives (λ x. x) result (when (is_statement declaring.place) (Some (declared declaring name (Some value)))) }
-{
-    if is_statement(declaring.place) {
-        return declared(alloc, declaring, name, Some(value));
-    }
-    discard_value(value);
-    discard_part(Part::Declare { declaring, name });
-    Err(Stop::Syntax)
-}
-
 /// The statement that ends with its expression.
 fn of_part(alloc: Global, part: Part, value: Boxed<Expr>) -> Result<Boxed<Stmt>, Stop>
     ensures { Gives (λ x. x) result (of_part part value) }
 {
     match part {
         Part::Express { site } => boxed(alloc, Stmt::Express { site, value }),
-        Part::Declare { declaring, name } => declared_with(alloc, declaring, name, value),
+        Part::Declare { declaring, name } => {
+            if is_statement(declaring.place) {
+                return declared(alloc, declaring, name, Some(value));
+            }
+            discard_value(value);
+            discard_part(Part::Declare { declaring, name });
+            Err(Stop::Syntax)
+        }
         Part::Return { site } => {
             boxed(
                 alloc,
@@ -138,31 +123,19 @@ fn of_part(alloc: Global, part: Part, value: Boxed<Expr>) -> Result<Boxed<Stmt>,
     }
 }
 
-/// The part ends with its expression.
-fn over_part(
-    alloc: Global,
-    part: Part,
-    value: Boxed<Expr>,
-    frames: Pile<Frame>,
-) -> Result<Over, Stop>
-    ensures { Gives (λ x. x) result (over_of value (frame.Part part ∷ frames)) }
-{
-    match of_part(alloc, part, value) {
-        Ok(value) => Ok(Over { value, frames }),
-        Err(stop) => {
-            discard(frames);
-            Err(stop)
-        }
-    }
-}
-
 /// The statement that ends with its expression, and what is around it.
 pub fn over_of(alloc: Global, value: Boxed<Expr>, frames: Pile<Frame>) -> Result<Over, Stop>
     ensures { Gives (λ x. x) result (over_of value frames) }
 {
     let mut frames = frames;
     match frames.pop() {
-        Some(Frame::Part(part)) => over_part(alloc, part, value, frames),
+        Some(Frame::Part(part)) => match of_part(alloc, part, value) {
+            Ok(value) => Ok(Over { value, frames }),
+            Err(stop) => {
+                discard(frames);
+                Err(stop)
+            }
+        },
         other => {
             discard_value(value);
             discard_frame(other);
@@ -182,46 +155,6 @@ pub fn over(stmt: Boxed<Stmt>, frames: Pile<Frame>) -> Parser
     }
 }
 
-/// A declaration ends as a statement.
-fn statement_over(
-    alloc: Global,
-    declaring: Declaring,
-    name: Identifier,
-    value: Option<Boxed<Expr>>,
-    frames: Pile<Frame>,
-) -> Result<Parser, Stop>
-    ensures { Makes result (over (declared declaring name value) frames) }
-{
-    match declared(alloc, declaring, name, value) {
-        Ok(stmt) => Ok(over(stmt, frames)),
-        Err(stop) => stopped(stop, frames),
-    }
-}
-
-/// A declaration ends as the first part of a `for`.
-fn head_over(
-    declaring: Declaring,
-    name: Identifier,
-    value: Option<Boxed<Expr>>,
-    frames: Pile<Frame>,
-) -> Result<Parser, Stop>
-    ensures { Makes result (wants (frame.Part (part.ForTest declaring.site (head.Declare declaring.kind (with_declarator declaring name value)))) frames) }
-{
-    let Declaring {
-        site,
-        kind,
-        declarators,
-        ..
-    } = declaring;
-    match with_declarator(declarators, name, value) {
-        Ok(declarators) => {
-            let head = LoopHead::Declare { kind, declarators };
-            wants(Frame::Part(Part::ForTest { site, head }), frames)
-        }
-        Err(stop) => stopped(stop, frames),
-    }
-}
-
 /// The end of a declaration: a statement, or the first part of a `for`.
 pub fn declaration_over(
     alloc: Global,
@@ -233,22 +166,22 @@ pub fn declaration_over(
     ensures { Makes result (declaration_over declaring name value frames) }
 {
     if is_statement(declaring.place) {
-        return statement_over(alloc, declaring, name, value, frames);
+        return match declared(alloc, declaring, name, value) {
+            Ok(stmt) => Ok(over(stmt, frames)),
+            Err(stop) => stopped(stop, frames),
+        };
     }
-    head_over(declaring, name, value, frames)
-}
-
-/// `;` behind an expression that ends its statement.
-fn part_over(
-    alloc: Global,
-    value: Boxed<Expr>,
-    part: Part,
-    frames: Pile<Frame>,
-) -> Result<Parser, Stop>
-    ensures { Gives (λ x. x) result (option_and_then (λ s. Some (over s frames)) (of_part part value)) }
-{
-    match of_part(alloc, part, value) {
-        Ok(stmt) => Ok(over(stmt, frames)),
+    let Declaring {
+        site,
+        kind,
+        declarators,
+        ..
+    } = declaring;
+    match with_declarator(declarators, name, value) {
+        Ok(declarators) => {
+            let head = LoopHead::Declare { kind, declarators };
+            wants(Frame::Part(Part::ForTest { site, head }), frames)
+        }
         Err(stop) => stopped(stop, frames),
     }
 }
@@ -273,7 +206,10 @@ fn semicolon_part(
         Part::Declare { declaring, name } => {
             declaration_over(alloc, declaring, name, Some(value), frames)
         }
-        part => part_over(alloc, value, part, frames),
+        part => match of_part(alloc, part, value) {
+            Ok(stmt) => Ok(over(stmt, frames)),
+            Err(stop) => stopped(stop, frames),
+        },
     }
 }
 

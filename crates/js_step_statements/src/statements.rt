@@ -1,27 +1,24 @@
 //! Statements that begin, and tokens behind those that are over.
 
-ghost use Rattle.std.specs.Prelude.{◌∷◌, ◌++◌, [], true, false, Some};
-ghost use Rattle.js_reading.specs.Operands.{at, below_due, want, want_word, word_of};
+ghost use Rattle.std.specs.Prelude.{◌∷◌, ◌++◌, [], true, false};
+ghost use Rattle.js_reading.specs.Operands.{at, want, word_of};
 ghost use Rattle.js_reading.specs.Reading.{below_by};
 ghost use Rattle.js_grammar.specs.declared.token.Word.TheVariants as word;
 ghost use Rattle.js_reading.specs.declared.frame.Frame.TheVariants as frame;
-ghost use Rattle.js_reading.specs.declared.frame.Below.TheVariants as belows;
-ghost use Rattle.js_reading.specs.declared.frame.Part.TheVariants as parts;
-ghost use Rattle.js_reading.specs.declared.mode.Ending.TheVariants as endings;
 ghost use Rattle.js_reading.specs.declared.mode.Mode.TheVariants as mode;
-ghost use Rattle.js_reading.specs.Statements.{arm, settle, test_due, jump_in_loop, loop_word, express, inner_word, inner, declaration, item_word, item, next_item, on_else, on_while, after, braces_due};
+ghost use Rattle.js_reading.specs.Statements.{settle, test_due, jump_in_loop, loop_word, inner_word, inner, declaration, item_word, item, next_item, on_else, on_while, after, braces_due};
 ghost use Rattle.js_step_operands.specs.Answers.{Gives, Makes};
 
 use crate::joining::{close_braces, over_with, settle, with_arm};
 use crate::sections::boxed;
-use js_ast::{Arm, DeclarationKind, Expr, Stmt};
+use js_ast::{DeclarationKind, Stmt};
 use js_grammar::{TokenKind, Word};
 use js_reading::{
     Below, Braces, Declaring, Ending, Frame, Heading, Mode, Opening, Parser, Part, Pile, Place,
 };
 use js_step_operands::{
-    Stop, below_due, context_of, discard_braces, discard_frame, discard_token, heading, opens_list,
-    pushed, refused, refused_at, stopped, want, want_word, word_of,
+    Stop, below_due, context_of, discard, discard_braces, discard_frame, discard_token, heading,
+    opens_list, pushed, refused, refused_at, stopped, want, want_word, word_of,
 };
 use sqlite_items::{Boxed, Items};
 use std::alloc::Global;
@@ -57,21 +54,14 @@ pub fn opening(opening: Opening, frames: Pile<Frame>) -> Result<Parser, Stop>
     })
 }
 
-/// `break` or `continue`, which may be over.
-fn jumped(alloc: Global, stmt: Stmt, frames: Pile<Frame>) -> Result<Parser, Stop>
-    ensures { Makes result (at (mode.Ending (endings.Jump stmt)) frames) }
-{
-    match boxed(alloc, stmt) {
-        Ok(stmt) => ending(Ending::Jump(stmt), frames),
-        Err(stop) => stopped(stop, frames),
-    }
-}
-
 fn jump(alloc: Global, stmt: Stmt, frames: Pile<Frame>) -> Result<Parser, Stop>
     ensures { Gives (λ x. x) result (jump_in_loop stmt frames) }
 {
     if context_of(&frames).in_loop {
-        return jumped(alloc, stmt, frames);
+        return match boxed(alloc, stmt) {
+            Ok(stmt) => ending(Ending::Jump(stmt), frames),
+            Err(stop) => stopped(stop, frames),
+        };
     }
     drop(stmt);
     refused(frames)
@@ -84,13 +74,6 @@ fn begins_return(site: u32, frames: Pile<Frame>) -> Result<Parser, Stop>
         return ending(Ending::Return { site }, frames);
     }
     refused(frames)
-}
-
-/// An expression that is a statement.
-fn express(site: u32, frames: Pile<Frame>) -> Result<Pile<Frame>, Stop>
-    ensures { Makes result (express site frames) }
-{
-    pushed(frames, Frame::Part(Part::Express { site }))
 }
 
 /// An expression begins that is a part of a statement.
@@ -119,16 +102,6 @@ pub fn braces_due(braces: Braces, frames: Pile<Frame>) -> Result<Parser, Stop>
     heading(Heading::Braces(braces), frames)
 }
 
-/// An expression begins that is a statement.
-fn express_word(alloc: Global, word: Word, site: u32, frames: Pile<Frame>) -> Result<Parser, Stop>
-    ensures { Gives (λ x. x) result (want_word word site (express site frames)) }
-{
-    match express(site, frames) {
-        Ok(frames) => want_word(alloc, word, site, frames),
-        Err(stop) => Err(stop),
-    }
-}
-
 fn loop_word(alloc: Global, word: Word, site: u32, frames: Pile<Frame>) -> Result<Parser, Stop>
     ensures { Gives (λ x. x) result (loop_word word site frames) }
 {
@@ -140,7 +113,10 @@ fn loop_word(alloc: Global, word: Word, site: u32, frames: Pile<Frame>) -> Resul
         Word::While => test_due(Part::While { site }, frames),
         Word::Do => below_due(Below::Do { site }, frames),
         Word::For => opening(Opening::For { site }, frames),
-        word => express_word(alloc, word, site, frames),
+        word => match pushed(frames, Frame::Part(Part::Express { site })) {
+            Ok(frames) => want_word(alloc, word, site, frames),
+            Err(stop) => Err(stop),
+        },
     }
 }
 
@@ -164,12 +140,8 @@ pub fn inner(alloc: Global, site: u32, frames: Pile<Frame>, kind: TokenKind) -> 
     ensures { Gives (λ x. x) result (inner site frames kind) }
 {
     match kind {
-        TokenKind::OpenBrace => {
-            opens_list(alloc, Braces::Block { site }, frames)
-        }
-        TokenKind::Semicolon => {
-            over_with(alloc, Stmt::Nothing { site }, frames)
-        }
+        TokenKind::OpenBrace => { opens_list(alloc, Braces::Block { site }, frames) }
+        TokenKind::Semicolon => { over_with(alloc, Stmt::Nothing { site }, frames) }
         TokenKind::Word { word, .. } => {
             discard_token(kind);
             inner_word(alloc, word, site, frames)
@@ -197,27 +169,22 @@ fn inner_below(
     }
 }
 
-/// `if` where a statement below another begins.
-fn below_if(alloc: Global, site: u32, frames: Pile<Frame>, kind: TokenKind) -> Result<Parser, Stop>
-    ensures { Gives (λ x. x) result (below_by site frames kind (Some word.If)) }
-{
-    let mut frames = frames;
-    match frames.pop() {
-        Some(Frame::Below(Below::Else { arms })) => {
-            discard_token(kind);
-            test_due(Part::If { arms, site }, frames)
-        }
-        Some(frame) => inner_below(alloc, site, frame, frames, kind),
-        None => inner(alloc, site, frames, kind),
-    }
-}
-
 /// A statement below another begins; `if` behind `else` goes on with the chain.
 pub fn below(alloc: Global, site: u32, frames: Pile<Frame>, kind: TokenKind) -> Result<Parser, Stop>
     ensures { Gives (λ x. x) result (below_by site frames kind (word_of kind)) }
 {
     match word_of(&kind) {
-        Some(Word::If) => below_if(alloc, site, frames, kind),
+        Some(Word::If) => {
+            let mut frames = frames;
+            match frames.pop() {
+                Some(Frame::Below(Below::Else { arms })) => {
+                    discard_token(kind);
+                    test_due(Part::If { arms, site }, frames)
+                }
+                Some(frame) => inner_below(alloc, site, frame, frames, kind),
+                None => inner(alloc, site, frames, kind),
+            }
+        }
         _ => inner(alloc, site, frames, kind),
     }
 }
@@ -298,6 +265,7 @@ fn listed(
         Ok(body) => pushed(frames, Frame::List { braces, body }),
         Err(stop) => {
             discard_braces(braces);
+            discard(frames);
             Err(stop)
         }
     }
@@ -350,54 +318,22 @@ fn next_item_below(
     }
 }
 
-/// An arm more, behind which a statement is due.
-fn else_due(
-    arms: Items<Arm>,
-    site: u32,
-    test: Boxed<Expr>,
-    stmt: Boxed<Stmt>,
-    frames: Pile<Frame>,
-) -> Result<Parser, Stop>
-    ensures { Gives (λ x. x) result (below_due (belows.Else (arm arms site test stmt)) frames) }
-{
-    match with_arm(arms, site, test, stmt) {
-        Ok(arms) => below_due(Below::Else { arms }, frames),
-        Err(stop) => stopped(stop, frames),
-    }
-}
-
 fn on_else(stmt: Boxed<Stmt>, frames: Pile<Frame>) -> Result<Parser, Stop>
     ensures { Gives (λ x. x) result (on_else stmt frames) }
 {
     let mut frames = frames;
     match frames.pop() {
         Some(Frame::Below(Below::Then { arms, site, test })) => {
-            else_due(arms, site, test, stmt, frames)
+            match with_arm(arms, site, test, stmt) {
+                Ok(arms) => below_due(Below::Else { arms }, frames),
+                Err(stop) => stopped(stop, frames),
+            }
         }
         other => {
             drop(stmt);
             refused_at(other, frames)
         }
     }
-}
-
-/// `while` behind the body of a `do`.
-fn do_test_due(
-    begin: u32,
-    site: u32,
-    stmt: Boxed<Stmt>,
-    frames: Pile<Frame>,
-) -> Result<Parser, Stop>
-    ensures { Gives (λ x. x) result (test_due (parts.Do begin stmt site) frames) }
-{
-    test_due(
-        Part::Do {
-            site: begin,
-            body: stmt,
-            test_site: site,
-        },
-        frames,
-    )
 }
 
 fn on_while(
@@ -415,7 +351,14 @@ fn on_while(
         Some(Frame::Below(Below::Do { site: begin })) => {
             discard_frame(around);
             discard_token(kind);
-            do_test_due(begin, site, stmt, frames)
+            test_due(
+                Part::Do {
+                    site: begin,
+                    body: stmt,
+                    test_site: site,
+                },
+                frames,
+            )
         }
         Some(frame) => next_item_below(alloc, site, stmt, frame, frames, kind),
         None => {

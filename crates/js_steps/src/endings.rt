@@ -1,12 +1,10 @@
 //! Tokens behind statements that may be over, and between the parts of a `try`.
 
-ghost use Rattle.std.specs.Prelude.{◌≡◌, ◌∷◌, Some, None, Err, cond};
+ghost use Rattle.std.specs.Prelude.{◌≡◌, Some, None, Err};
 ghost use Rattle.js_ast.specs.declared.statement.Stmt.TheVariants as stmt;
-ghost use Rattle.js_reading.specs.Operands.{want, word_of};
-ghost use Rattle.js_reading.specs.declared.frame.Frame.TheVariants as frame;
-ghost use Rattle.js_reading.specs.declared.frame.Part.TheVariants as part;
-ghost use Rattle.js_reading.specs.Statements.{after, ends_bare, over, do_on, jump_on, return_on, throw_on, ending_on, braces_on, tried_on, catch_head_on, catch_open_on, catch_name_on, caught_by, trying_on};
-ghost use Rattle.js_step_operands.specs.Answers.{Gives, Makes};
+ghost use Rattle.js_reading.specs.Operands.{word_of};
+ghost use Rattle.js_reading.specs.Statements.{after, do_on, jump_on, return_on, throw_on, ending_on, braces_on, tried_on, catch_head_on, catch_open_on, catch_name_on, caught_by, trying_on};
+ghost use Rattle.js_step_operands.specs.Answers.{Gives};
 ghost use Rattle.js_step_operands.specs.declared.stop.Stop.TheVariants as stop;
 
 use crate::openings::ends_bare;
@@ -84,33 +82,6 @@ pub fn bare_return(site: u32) -> Stmt
     Stmt::Return { site, value: None }
 }
 
-/// `;` behind a `return` with no value.
-fn return_over(alloc: Global, site: u32, frames: Pile<Frame>) -> Result<Parser, Stop>
-    ensures { Makes result (over (stmt.Return site None) frames) }
-{
-    match boxed(alloc, bare_return(site)) {
-        Ok(stmt) => Ok(over(stmt, frames)),
-        Err(stop) => stopped(stop, frames),
-    }
-}
-
-/// A token other than `;` behind `return`.
-fn return_before(
-    alloc: Global,
-    line: bool,
-    begin: u32,
-    site: u32,
-    frames: Pile<Frame>,
-    kind: TokenKind,
-) -> Result<Parser, Stop>
-    ensures { Gives (λ x. x) result (cond (ends_bare line kind) (after site (stmt.Return begin None) frames kind) (want site (frame.Part (part.Return begin) ∷ frames) kind)) }
-{
-    if ends_bare(line, &kind) {
-        return after_stmt(alloc, bare_return(begin), site, frames, kind);
-    }
-    want_part(alloc, Part::Return { site: begin }, site, frames, kind)
-}
-
 fn return_on(
     alloc: Global,
     line: bool,
@@ -122,8 +93,16 @@ fn return_on(
     ensures { Gives (λ x. x) result (return_on line begin site frames kind) }
 {
     match kind {
-        TokenKind::Semicolon => return_over(alloc, begin, frames),
-        _ => return_before(alloc, line, begin, site, frames, kind),
+        TokenKind::Semicolon => match boxed(alloc, bare_return(begin)) {
+            Ok(stmt) => Ok(over(stmt, frames)),
+            Err(stop) => stopped(stop, frames),
+        },
+        _ => {
+            if ends_bare(line, &kind) {
+                return after_stmt(alloc, bare_return(begin), site, frames, kind);
+            }
+            want_part(alloc, Part::Return { site: begin }, site, frames, kind)
+        }
     }
 }
 

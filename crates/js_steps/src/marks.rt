@@ -1,16 +1,12 @@
 //! Marks that end an expression between brackets, or a part of a statement.
 
-ghost use Rattle.std.specs.Prelude.{option_and_then};
-ghost use Rattle.js_reading.specs.Operands.{reached, whole, wrapped};
 ghost use Rattle.js_reading.specs.Reading.{close_round_of, on_close_round, comma_of, on_comma};
-ghost use Rattle.js_step_operands.specs.Answers.{Gives, Makes};
+ghost use Rattle.js_step_operands.specs.Answers.{Gives};
 
 use js_ast::Expr;
 use js_reading::{Frame, Operand, Parser, Pile};
 use js_step_brackets::{close_round_in, comma_in, comma_round, round_of};
-use js_step_operands::{
-    Stop, discard_frame, discard_value, reached, refused_at, stopped, wrapped,
-};
+use js_step_operands::{Stop, discard_frame, discard_value, reached, refused_at, stopped, wrapped};
 use js_step_operators::whole;
 use js_step_statements::{close_round_part, comma_part};
 use sqlite_items::Boxed;
@@ -30,36 +26,6 @@ fn close_round_of(alloc: Global, value: Boxed<Expr>, frames: Pile<Frame>) -> Res
     }
 }
 
-/// `)` behind an operand directly behind `(`.
-fn close_round(
-    alloc: Global,
-    site: u32,
-    operand: Operand,
-    frames: Pile<Frame>,
-) -> Result<Parser, Stop>
-    ensures { Makes result (reached site (wrapped operand) frames) }
-{
-    match wrapped(alloc, operand) {
-        Ok(operand) => Ok(reached(site, operand, frames)),
-        Err(stop) => stopped(stop, frames),
-    }
-}
-
-/// `)` behind the end of an expression.
-fn close_round_whole(
-    alloc: Global,
-    start: u32,
-    operand: Operand,
-    frames: Pile<Frame>,
-) -> Result<Parser, Stop>
-    ensures { Gives (λ x. x) result (option_and_then (λ c. close_round_of c.value c.frames) (whole start operand frames)) }
-{
-    match whole(alloc, start, operand, frames) {
-        Ok(closed) => close_round_of(alloc, closed.value, closed.frames),
-        Err(stop) => Err(stop),
-    }
-}
-
 /// `)`.
 pub fn on_close_round(
     alloc: Global,
@@ -72,9 +38,15 @@ pub fn on_close_round(
     if let Some(site) = round_of(&frames) {
         let mut frames = frames;
         discard_frame(frames.pop());
-        return close_round(alloc, site, operand, frames);
+        return match wrapped(alloc, operand) {
+            Ok(operand) => Ok(reached(site, operand, frames)),
+            Err(stop) => stopped(stop, frames),
+        };
     }
-    close_round_whole(alloc, start, operand, frames)
+    match whole(alloc, start, operand, frames) {
+        Ok(closed) => close_round_of(alloc, closed.value, closed.frames),
+        Err(stop) => Err(stop),
+    }
 }
 
 fn comma_of(alloc: Global, value: Boxed<Expr>, frames: Pile<Frame>) -> Result<Parser, Stop>
@@ -88,21 +60,6 @@ fn comma_of(alloc: Global, value: Boxed<Expr>, frames: Pile<Frame>) -> Result<Pa
             discard_value(value);
             refused_at(other, frames)
         }
-    }
-}
-
-/// `,` behind the end of an expression.
-fn comma_whole(
-    alloc: Global,
-    start: u32,
-    operand: Operand,
-    frames: Pile<Frame>,
-) -> Result<Parser, Stop>
-    ensures { Gives (λ x. x) result (option_and_then (λ c. comma_of c.value c.frames) (whole start operand frames)) }
-{
-    match whole(alloc, start, operand, frames) {
-        Ok(closed) => comma_of(alloc, closed.value, closed.frames),
-        Err(stop) => Err(stop),
     }
 }
 
@@ -120,5 +77,8 @@ pub fn on_comma(
         discard_frame(frames.pop());
         return comma_round(alloc, site, operand, frames);
     }
-    comma_whole(alloc, start, operand, frames)
+    match whole(alloc, start, operand, frames) {
+        Ok(closed) => comma_of(alloc, closed.value, closed.frames),
+        Err(stop) => Err(stop),
+    }
 }

@@ -2,18 +2,15 @@
 
 ghost use Rattle.std.specs.Prelude.{◌≡◌, Err};
 ghost use Rattle.js_grammar.specs.declared.token.TokenKind.TheVariants as k;
-ghost use Rattle.js_reading.specs.Operands.{want_word, wants};
-ghost use Rattle.js_reading.specs.declared.frame.Frame.TheVariants as frame;
-ghost use Rattle.js_reading.specs.declared.frame.Part.TheVariants as part;
-ghost use Rattle.js_reading.specs.Statements.{after, bare, test_on, for_on, for_first, for_word, for_head_on, declare_on, named_semicolon, named_comma, goes_of, ends_bare, named_ends, named_on, function_name_on, opening_on};
-ghost use Rattle.js_step_operands.specs.Answers.{Gives, Makes};
+ghost use Rattle.js_reading.specs.Statements.{test_on, for_on, for_word, for_head_on, declare_on, named_semicolon, named_comma, goes_of, ends_bare, named_ends, named_on, function_name_on, opening_on};
+ghost use Rattle.js_step_operands.specs.Answers.{Gives};
 ghost use Rattle.js_step_operands.specs.declared.stop.Stop.TheVariants as stop;
 
 use js_ast::{DeclarationKind, Identifier, LoopHead};
 use js_grammar::{TokenKind, Word};
 use js_reading::{Declaring, Frame, Header, Heading, Mode, Opening, Parser, Part, Pile, Place};
 use js_step_operands::{
-    Stop, discard_token, heading, is_of, pushed, refused, stopped, want_word, wants,
+    Stop, discard_part, discard_token, heading, is_of, pushed, refused, stopped, want_word, wants,
 };
 use js_step_statements::{
     after, bare, declaration, declaration_over, declares_more, is_let, is_statement, opening,
@@ -43,28 +40,6 @@ fn for_on(site: u32, frames: Pile<Frame>, kind: &TokenKind) -> Result<Parser, St
     }
 }
 
-fn for_first(site: u32, frames: Pile<Frame>) -> Result<Pile<Frame>, Stop>
-    ensures { Makes result (for_first site frames) }
-{
-    pushed(frames, Frame::Part(Part::ForFirst { site }))
-}
-
-/// An expression begins that is first in the head of a `for`.
-fn for_first_word(
-    alloc: Global,
-    word: Word,
-    site: u32,
-    at: u32,
-    frames: Pile<Frame>,
-) -> Result<Parser, Stop>
-    ensures { Gives (λ x. x) result (want_word word at (for_first site frames)) }
-{
-    match for_first(site, frames) {
-        Ok(frames) => want_word(alloc, word, at, frames),
-        Err(stop) => Err(stop),
-    }
-}
-
 fn for_word(
     alloc: Global,
     word: Word,
@@ -77,7 +52,10 @@ fn for_word(
     match word {
         Word::Let => declaration(alloc, Place::Loop, site, DeclarationKind::Let, frames),
         Word::Const => declaration(alloc, Place::Loop, site, DeclarationKind::Const, frames),
-        word => for_first_word(alloc, word, site, at, frames),
+        word => match pushed(frames, Frame::Part(Part::ForFirst { site })) {
+            Ok(frames) => want_word(alloc, word, at, frames),
+            Err(stop) => Err(stop),
+        },
     }
 }
 
@@ -104,26 +82,6 @@ fn for_head_on(
     }
 }
 
-/// The token can't stand here, in a declaration.
-fn refused_declaring(declaring: Declaring, frames: Pile<Frame>) -> Result<Parser, Stop>
-    ensures { result ≡ Err stop.Syntax }
-{
-    drop(declaring);
-    refused(frames)
-}
-
-/// The same behind a declared name.
-fn refused_named(
-    declaring: Declaring,
-    name: Identifier,
-    frames: Pile<Frame>,
-) -> Result<Parser, Stop>
-    ensures { result ≡ Err stop.Syntax }
-{
-    drop(name);
-    refused_declaring(declaring, frames)
-}
-
 fn declare_on(
     declaring: Declaring,
     at: u32,
@@ -136,16 +94,30 @@ fn declare_on(
         TokenKind::Name(name) => {
             if !is_statement(declaring.place) && is_of(&name) {
                 drop(name);
-                return refused_declaring(declaring, frames);
+                drop(declaring);
+                return refused(frames);
             }
             let name = Identifier { site: at, name };
             opening(Opening::Named { declaring, name }, frames)
         }
         other => {
             discard_token(other);
-            refused_declaring(declaring, frames)
+            drop(declaring);
+            refused(frames)
         }
     }
+}
+
+/// The token can't stand here, behind a declared name.
+fn refused_named(
+    declaring: Declaring,
+    name: Identifier,
+    frames: Pile<Frame>,
+) -> Result<Parser, Stop>
+    ensures { result ≡ Err stop.Syntax }
+{
+    discard_part(Part::Declare { declaring, name });
+    refused(frames)
 }
 
 fn named_semicolon(
@@ -188,26 +160,6 @@ pub fn ends_bare(line: bool, kind: &TokenKind) -> bool
     }
 }
 
-/// The declaration ends with the name, and the token is behind it.
-fn after_named(
-    alloc: Global,
-    declaring: Declaring,
-    name: Identifier,
-    site: u32,
-    frames: Pile<Frame>,
-    kind: TokenKind,
-) -> Result<Parser, Stop>
-    ensures { Gives (λ x. x) result (after site (bare declaring name) frames kind) }
-{
-    match bare(alloc, declaring, name) {
-        Ok(stmt) => after(alloc, site, stmt, frames, kind),
-        Err(stop) => {
-            discard_token(kind);
-            stopped(stop, frames)
-        }
-    }
-}
-
 fn named_ends(
     alloc: Global,
     line: bool,
@@ -220,24 +172,16 @@ fn named_ends(
     ensures { Gives (λ x. x) result (named_ends line declaring name site frames kind) }
 {
     if is_statement(declaring.place) && is_let(declaring.kind) && ends_bare(line, &kind) {
-        return after_named(alloc, declaring, name, site, frames, kind);
+        return match bare(alloc, declaring, name) {
+            Ok(stmt) => after(alloc, site, stmt, frames, kind),
+            Err(stop) => {
+                discard_token(kind);
+                stopped(stop, frames)
+            }
+        };
     }
     discard_token(kind);
     refused_named(declaring, name, frames)
-}
-
-/// `of` behind a declared name.
-fn of_due(declaring: Declaring, name: Identifier, frames: Pile<Frame>) -> Result<Parser, Stop>
-    ensures { Makes result (wants (frame.Part (part.ForOf declaring.site declaring.kind name)) frames) }
-{
-    let Declaring {
-        site,
-        kind,
-        declarators,
-        ..
-    } = declaring;
-    drop(declarators);
-    wants(Frame::Part(Part::ForOf { site, kind, name }), frames)
 }
 
 /// A name behind a declared name.
@@ -254,7 +198,21 @@ fn named_word(
 {
     if goes_of(&declaring, &word) {
         drop(word);
-        return of_due(declaring, name, frames);
+        let Declaring {
+            site: begin,
+            kind,
+            declarators,
+            ..
+        } = declaring;
+        drop(declarators);
+        return wants(
+            Frame::Part(Part::ForOf {
+                site: begin,
+                kind,
+                name,
+            }),
+            frames,
+        );
     }
     let kind = TokenKind::Name(word);
     named_ends(alloc, line, declaring, name, site, frames, kind)

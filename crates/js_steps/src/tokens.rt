@@ -1,11 +1,9 @@
 //! One token more, and the end.
 
-ghost use Rattle.std.specs.Prelude.{◌≡◌, ◌∷◌, ◌++◌, [], Err, option_and_then};
-ghost use Rattle.js_grammar.specs.declared.token.TokenKind.TheVariants as k;
-ghost use Rattle.js_reading.specs.Operands.{object};
-ghost use Rattle.js_reading.specs.Statements.{after, bare, over_of};
+ghost use Rattle.std.specs.Prelude.{◌≡◌, ◌∷◌, Err, option_and_then};
+ghost use Rattle.js_reading.specs.Statements.{after, over_of};
 ghost use Rattle.js_reading.specs.declared.mode.Opening.TheVariants as openings;
-ghost use Rattle.js_reading.specs.Reading.{script_of, ends_before, step_mark, ended_operand, close_brace_of, on_close_brace, ends_by, operand_on, heading_on, step, ended, no_more, ended_ending, ended_trying, ended_opening, ends};
+ghost use Rattle.js_reading.specs.Reading.{ends_before, step_mark, ended_operand, close_brace_of, on_close_brace, ends_by, operand_on, heading_on, step, ended, no_more, ended_ending, ended_trying, ended_opening, ends};
 ghost use Rattle.js_reading.specs.declared.frame.Frame.TheVariants as frame;
 ghost use Rattle.js_reading.specs.declared.frame.Braces.TheVariants as braces;
 ghost use Rattle.js_step_operands.specs.Answers.{Gives};
@@ -17,8 +15,8 @@ use crate::openings::opening_on;
 use js_ast::{Expr, Identifier, Member, StepOp, Stmt};
 use js_grammar::{Token, TokenKind};
 use js_reading::{
-    Braces, Bracket, Declaring, Ending, Frame, Heading, Mode, Opening, Operand, Parser, Part, Pile,
-    Trying,
+    Braces, Bracket, Declaring, Ending, Frame, Heading, Mode, Opening, Operand, Over, Parser, Part,
+    Pile, Trying,
 };
 use js_step_brackets::{
     arrow_due_on, object, on_close_square, on_colon, open_on, parameter_on, parameters_on,
@@ -74,41 +72,6 @@ fn ends_before(
     }
 }
 
-/// `}` behind the last member.
-fn close_member(
-    alloc: Global,
-    site: u32,
-    members: Items<Member<Boxed<Expr>>>,
-    member: Member<Boxed<Expr>>,
-    frames: Pile<Frame>,
-) -> Result<Parser, Stop>
-    ensures { Gives (λ x. x) result (object site (members ++ member ∷ []) frames) }
-{
-    match with_member(members, member) {
-        Ok(members) => object(alloc, site, members, frames),
-        Err(stop) => stopped(stop, frames),
-    }
-}
-
-/// `}` of a list inside a frame that is put back.
-fn close_brace_in(
-    alloc: Global,
-    site: u32,
-    value: Boxed<Expr>,
-    frame: Frame,
-    frames: Pile<Frame>,
-) -> Result<Parser, Stop>
-    ensures { Gives (λ x. x) result (option_and_then (λ o. after site o.value o.frames k.CloseBrace) (over_of value (frame ∷ frames))) }
-{
-    match pushed(frames, frame) {
-        Ok(frames) => after_expression(alloc, site, value, frames, TokenKind::CloseBrace),
-        Err(stop) => {
-            discard_value(value);
-            Err(stop)
-        }
-    }
-}
-
 /// `}` of an object, or of the list around the statement.
 fn close_brace_of(
     alloc: Global,
@@ -139,9 +102,18 @@ fn close_brace_of(
                 key,
                 value,
             };
-            close_member(alloc, site, members, member, frames)
+            match with_member(members, member) {
+                Ok(members) => object(alloc, site, members, frames),
+                Err(stop) => stopped(stop, frames),
+            }
         }
-        Some(frame) => close_brace_in(alloc, site, value, frame, frames),
+        Some(frame) => match pushed(frames, frame) {
+            Ok(frames) => after_expression(alloc, site, value, frames, TokenKind::CloseBrace),
+            Err(stop) => {
+                discard_value(value);
+                Err(stop)
+            }
+        },
     }
 }
 
@@ -335,25 +307,18 @@ fn no_more(frames: Pile<Frame>) -> Result<Items<Stmt>, Stop>
     }
 }
 
-/// The same with its last statement.
-fn script_of(stmt: Boxed<Stmt>, frames: Pile<Frame>) -> Result<Items<Stmt>, Stop>
-    ensures { Gives (λ x. x) result (script_of stmt frames) }
-{
-    match no_more(frames) {
-        Ok(body) => with_stmt(body, stmt),
-        Err(stop) => {
-            drop(stmt);
-            Err(stop)
-        }
-    }
-}
-
 /// The same behind its last statement.
 fn ended(alloc: Global, stmt: Boxed<Stmt>, frames: Pile<Frame>) -> Result<Items<Stmt>, Stop>
     ensures { Gives (λ x. x) result (ended stmt frames) }
 {
     match settle(alloc, false, stmt, frames) {
-        Ok(over) => script_of(over.value, over.frames),
+        Ok(Over { value, frames }) => match no_more(frames) {
+            Ok(body) => with_stmt(body, value),
+            Err(stop) => {
+                drop(value);
+                Err(stop)
+            }
+        },
         Err(stop) => Err(stop),
     }
 }
@@ -398,24 +363,6 @@ fn ended_trying(alloc: Global, trying: Trying, frames: Pile<Frame>) -> Result<It
 }
 
 /// The same behind a declared name with no value.
-fn ended_bare(
-    alloc: Global,
-    declaring: Declaring,
-    name: Identifier,
-    frames: Pile<Frame>,
-) -> Result<Items<Stmt>, Stop>
-    ensures { Gives (λ x. x) result (ended (bare declaring name) frames) }
-{
-    match bare(alloc, declaring, name) {
-        Ok(stmt) => ended(alloc, stmt, frames),
-        Err(stop) => {
-            discard(frames);
-            Err(stop)
-        }
-    }
-}
-
-/// The same, where such a name may end a statement.
 fn ended_named(
     alloc: Global,
     declaring: Declaring,
@@ -425,7 +372,13 @@ fn ended_named(
     ensures { Gives (λ x. x) result (ended_opening (openings.Named declaring name) frames) }
 {
     if is_statement(declaring.place) && is_let(declaring.kind) {
-        return ended_bare(alloc, declaring, name, frames);
+        return match bare(alloc, declaring, name) {
+            Ok(stmt) => ended(alloc, stmt, frames),
+            Err(stop) => {
+                discard(frames);
+                Err(stop)
+            }
+        };
     }
     discard_part(Part::Declare { declaring, name });
     refused_end(frames)
@@ -443,20 +396,6 @@ fn ended_opening(alloc: Global, opening: Opening, frames: Pile<Frame>) -> Result
     }
 }
 
-/// The same behind an expression that ends its statement.
-fn ended_expression(
-    alloc: Global,
-    value: Boxed<Expr>,
-    frames: Pile<Frame>,
-) -> Result<Items<Stmt>, Stop>
-    ensures { Gives (λ x. x) result (option_and_then (λ o. ended o.value o.frames) (over_of value frames)) }
-{
-    match over_of(alloc, value, frames) {
-        Ok(over) => ended(alloc, over.value, over.frames),
-        Err(stop) => Err(stop),
-    }
-}
-
 fn ended_operand(
     alloc: Global,
     start: u32,
@@ -466,7 +405,10 @@ fn ended_operand(
     ensures { Gives (λ x. x) result (ended_operand start operand frames) }
 {
     match whole(alloc, start, operand, frames) {
-        Ok(closed) => ended_expression(alloc, closed.value, closed.frames),
+        Ok(closed) => match over_of(alloc, closed.value, closed.frames) {
+            Ok(over) => ended(alloc, over.value, over.frames),
+            Err(stop) => Err(stop),
+        },
         Err(stop) => Err(stop),
     }
 }
@@ -482,8 +424,14 @@ pub fn ends(alloc: Global, parser: Parser) -> Result<Items<Stmt>, Stop>
         Mode::Ending(ending) => ended_ending(alloc, ending, frames),
         Mode::Trying(trying) => ended_trying(alloc, trying, frames),
         Mode::Opening(opening) => ended_opening(alloc, opening, frames),
-        other => {
-            drop(other);
+        Mode::Below => refused_end(frames),
+        Mode::Want => refused_end(frames),
+        Mode::Heading(heading) => {
+            drop(heading);
+            refused_end(frames)
+        }
+        Mode::Piece(piece) => {
+            drop(piece);
             refused_end(frames)
         }
     }
