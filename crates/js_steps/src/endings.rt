@@ -44,7 +44,10 @@ fn jump_on(
     ensures { Gives (λ x. x) result (jump_on line stmt site frames kind) }
 {
     match kind {
-        TokenKind::Semicolon => Ok(over(stmt, frames)),
+        TokenKind::Semicolon => {
+            discard_token(kind);
+            Ok(over(stmt, frames))
+        }
         _ => {
             if ends_bare(line, &kind) {
                 return after(alloc, site, stmt, frames, kind);
@@ -93,10 +96,13 @@ fn return_on(
     ensures { Gives (λ x. x) result (return_on line begin site frames kind) }
 {
     match kind {
-        TokenKind::Semicolon => match boxed(alloc, bare_return(begin)) {
-            Ok(stmt) => Ok(over(stmt, frames)),
-            Err(stop) => stopped(stop, frames),
-        },
+        TokenKind::Semicolon => {
+            discard_token(kind);
+            match boxed(alloc, bare_return(begin)) {
+                Ok(stmt) => Ok(over(stmt, frames)),
+                Err(stop) => stopped(stop, frames),
+            }
+        }
         _ => {
             if ends_bare(line, &kind) {
                 return after_stmt(alloc, bare_return(begin), site, frames, kind);
