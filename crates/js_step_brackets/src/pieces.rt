@@ -1,15 +1,18 @@
 //! The beginnings of operands, and parameters.
 
-ghost use Rattle.std.specs.Prelude.{◌≡◌};
+ghost use Rattle.std.specs.Prelude.{◌≡◌, Err};
 ghost use Rattle.js_grammar.specs.Phrases.{is_proto};
 ghost use Rattle.js_reading.specs.Operands.{object, name_key, text_key, key_on, to_value, name_key_on, other_key_on, new_on, new_name_on, property, property_on, function_on, piece_on, headed, open_on, parameters_on, parameter_on, arrow_due_on};
 ghost use Rattle.js_step_operands.specs.Answers.{Gives};
+ghost use Rattle.js_step_operands.specs.declared.stop.Stop.TheVariants as stop;
 
-use crate::brackets::{key_due, with_member, with_name};
+use crate::brackets::{comma_member, with_member, with_name};
 use js_ast::{Access, Expr, Identifier, Key, Member, Suffix};
 use js_grammar::TokenKind;
 use js_reading::{Braces, Bracket, Frame, Header, Heading, Operand, Parser, Piece, Pile};
-use js_step_operands::{Stop, heading, piece, primary, reached, wants};
+use js_step_operands::{
+    Stop, discard_call, discard_token, heading, piece, primary, reached, refused, stopped, wants,
+};
 use js_step_operators::to_arrow;
 use js_units::Units;
 use sqlite_items::{Boxed, Items};
@@ -33,6 +36,14 @@ pub fn object(
     primary(alloc, site, Expr::Object { site, members }, frames)
 }
 
+/// The token can't stand here, in an object.
+fn refused_member(members: Items<Member<Boxed<Expr>>>, frames: Pile<Frame>) -> Result<Parser, Stop>
+    ensures { result ≡ Err stop.Syntax }
+{
+    drop(members);
+    refused(frames)
+}
+
 fn name_key(
     site: u32,
     members: Items<Member<Boxed<Expr>>>,
@@ -43,7 +54,8 @@ fn name_key(
     ensures { Gives (λ x. x) result (name_key site members at name frames) }
 {
     if is_proto(&name) {
-        return Err(Stop::Syntax);
+        drop(name);
+        return refused_member(members, frames);
     }
     let name = Identifier { site: at, name };
     piece(
@@ -66,7 +78,8 @@ fn text_key(
     ensures { Gives (λ x. x) result (text_key site members at name frames) }
 {
     if is_proto(&name) {
-        return Err(Stop::Syntax);
+        drop(name);
+        return refused_member(members, frames);
     }
     let key = Key::Text(name);
     piece(
@@ -95,7 +108,6 @@ fn key_on(
         TokenKind::Word { units, .. } => text_key(site, members, at, units, frames),
         TokenKind::Text(text) => text_key(site, members, at, text, frames),
         TokenKind::Number(number) => {
-            drop(kind);
             let key = Key::Number(number);
             piece(
                 Piece::OtherKey {
@@ -107,13 +119,10 @@ fn key_on(
                 frames,
             )
         }
-        TokenKind::CloseBrace => {
-            drop(kind);
-            object(alloc, site, members, frames)
-        }
+        TokenKind::CloseBrace => object(alloc, site, members, frames),
         other => {
-            drop(other);
-            Err(Stop::Syntax)
+            discard_token(other);
+            refused_member(members, frames)
         }
     }
 }
@@ -156,15 +165,15 @@ fn name_key_on(
             } = name;
             to_value(site, members, key_site, Key::Text(name), frames)
         }
-        TokenKind::Comma => {
-            let members = with_member(members, Member::Shorthand(name))?;
-            key_due(site, members, frames)
+        TokenKind::Comma => comma_member(site, members, Member::Shorthand(name), frames),
+        TokenKind::CloseBrace => match with_member(members, Member::Shorthand(name)) {
+            Ok(members) => object(alloc, site, members, frames),
+            Err(stop) => stopped(stop, frames),
+        },
+        _ => {
+            drop(name);
+            refused_member(members, frames)
         }
-        TokenKind::CloseBrace => {
-            let members = with_member(members, Member::Shorthand(name))?;
-            object(alloc, site, members, frames)
-        }
-        _ => Err(Stop::Syntax),
     }
 }
 
@@ -182,7 +191,7 @@ fn other_key_on(
         TokenKind::Colon => to_value(site, members, key_site, key, frames),
         _ => {
             drop(key);
-            Err(Stop::Syntax)
+            refused_member(members, frames)
         }
     }
 }
@@ -196,8 +205,8 @@ fn new_on(site: u32, at: u32, frames: Pile<Frame>, kind: TokenKind) -> Result<Pa
             piece(Piece::NewName { site, name }, frames)
         }
         other => {
-            drop(other);
-            Err(Stop::Syntax)
+            discard_token(other);
+            refused(frames)
         }
     }
 }
@@ -223,7 +232,10 @@ fn new_name_on(
                 frames,
             )
         }
-        _ => Err(Stop::Syntax),
+        _ => {
+            drop(name);
+            refused(frames)
+        }
     }
 }
 
@@ -260,8 +272,9 @@ fn property_on(
         TokenKind::Name(name) => property(start, first, suffixes, site, name, frames),
         TokenKind::Word { units, .. } => property(start, first, suffixes, site, units, frames),
         other => {
-            drop(other);
-            Err(Stop::Syntax)
+            discard_token(other);
+            discard_call(first, suffixes);
+            refused(frames)
         }
     }
 }
@@ -281,14 +294,13 @@ fn function_on(
             heading(Heading::Open(Header::Value { site, name }), frames)
         }
         TokenKind::OpenRound => {
-            drop(kind);
             let header = Header::Value { site, name: None };
             let names = Items::new(alloc);
             heading(Heading::Parameters { header, names }, frames)
         }
         other => {
-            drop(other);
-            Err(Stop::Syntax)
+            discard_token(other);
+            refused(frames)
         }
     }
 }
@@ -311,7 +323,7 @@ pub fn piece_on(
             name,
         } => {
             let parser = name_key_on(alloc, site, members, name, frames, &kind);
-            drop(kind);
+            discard_token(kind);
             parser
         }
         Piece::OtherKey {
@@ -321,13 +333,13 @@ pub fn piece_on(
             key,
         } => {
             let parser = other_key_on(site, members, key_site, key, frames, &kind);
-            drop(kind);
+            discard_token(kind);
             parser
         }
         Piece::New { site } => new_on(site, at, frames, kind),
         Piece::NewName { site, name } => {
             let parser = new_name_on(alloc, site, name, frames, &kind);
-            drop(kind);
+            discard_token(kind);
             parser
         }
         Piece::Property {
@@ -379,9 +391,22 @@ pub fn open_on(
         }
         _ => {
             drop(header);
-            Err(Stop::Syntax)
+            refused(frames)
         }
     }
+}
+
+/// The token can't stand here, between parameters.
+fn refused_parameter(
+    header: Header,
+    names: Items<Identifier>,
+    frames: Pile<Frame>,
+) -> Result<Parser, Stop>
+    ensures { result ≡ Err stop.Syntax }
+{
+    drop(header);
+    drop(names);
+    refused(frames)
 }
 
 /// A parameter, or the end of them.
@@ -399,17 +424,13 @@ pub fn parameters_on(
             Ok(names) => heading(Heading::Parameter { header, names }, frames),
             Err(stop) => {
                 drop(header);
-                Err(stop)
+                stopped(stop, frames)
             }
         },
-        TokenKind::CloseRound => {
-            drop(kind);
-            heading(headed(header, names), frames)
-        }
+        TokenKind::CloseRound => heading(headed(header, names), frames),
         other => {
-            drop(other);
-            drop(header);
-            Err(Stop::Syntax)
+            discard_token(other);
+            refused_parameter(header, names, frames)
         }
     }
 }
@@ -426,10 +447,7 @@ pub fn parameter_on(
     match kind {
         TokenKind::Comma => heading(Heading::Parameters { header, names }, frames),
         TokenKind::CloseRound => heading(headed(header, names), frames),
-        _ => {
-            drop(header);
-            Err(Stop::Syntax)
-        }
+        _ => refused_parameter(header, names, frames),
     }
 }
 
@@ -445,6 +463,9 @@ pub fn arrow_due_on(
 {
     match kind {
         TokenKind::Arrow => to_arrow(line, start, names, frames),
-        _ => Err(Stop::Syntax),
+        _ => {
+            drop(names);
+            refused(frames)
+        }
     }
 }

@@ -7,6 +7,7 @@ ghost use Rattle.js_reading.specs.Frames.{context, begun, begins, tightness_of, 
 ghost use Rattle.js_step_operands.specs.Answers.{Gives, Makes};
 
 use crate::operands::boxed;
+use crate::refusals::{discard, discard_value};
 use crate::stop::Stop;
 use js_ast::{BinaryOp, Expr, Link, LogicalOp};
 use js_reading::{Closed, Frame, Pending, Pile};
@@ -73,8 +74,13 @@ pub fn pushed(frames: Pile<Frame>, frame: Frame) -> Result<Pile<Frame>, Stop>
     ensures { Makes result (frame ∷ frames) }
 {
     let mut frames = frames;
-    frames.push(frame)?;
-    Ok(frames)
+    match frames.push(frame) {
+        Ok(()) => Ok(frames),
+        Err(_) => {
+            discard(frames);
+            Err(Stop::NoMemory)
+        }
+    }
 }
 
 /// The operator with its right side, behind those before it.
@@ -121,9 +127,12 @@ fn join(alloc: Global, pending: Pending, value: Boxed<Expr>) -> Result<Boxed<Exp
             site,
             op,
             ..
-        } => Expr::Binary {
-            first,
-            links: binary_links(links, site, op, value)?,
+        } => match binary_links(links, site, op, value) {
+            Ok(links) => Expr::Binary { first, links },
+            Err(stop) => {
+                discard_value(first);
+                return Err(stop);
+            }
         },
         Pending::Logical {
             first,
@@ -131,9 +140,12 @@ fn join(alloc: Global, pending: Pending, value: Boxed<Expr>) -> Result<Boxed<Exp
             site,
             op,
             ..
-        } => Expr::Logical {
-            first,
-            links: logical_links(links, site, op, value)?,
+        } => match logical_links(links, site, op, value) {
+            Ok(links) => Expr::Logical { first, links },
+            Err(stop) => {
+                discard_value(first);
+                return Err(stop);
+            }
         },
         Pending::Conditional {
             start,
@@ -172,6 +184,28 @@ fn join(alloc: Global, pending: Pending, value: Boxed<Expr>) -> Result<Boxed<Exp
     boxed(alloc, whole)
 }
 
+/// An expression inside a frame that is put back.
+fn closed_in(
+    start: u32,
+    value: Boxed<Expr>,
+    frame: Frame,
+    frames: Pile<Frame>,
+) -> Result<Closed, Stop>
+    ensures { Makes result (record { start = start; value = value; frames = frame ∷ frames }) }
+{
+    match pushed(frames, frame) {
+        Ok(frames) => Ok(Closed {
+            start,
+            value,
+            frames,
+        }),
+        Err(stop) => {
+            discard_value(value);
+            Err(stop)
+        }
+    }
+}
+
 /// What is tighter ends with the expression.
 pub fn close_to(
     alloc: Global,
@@ -190,27 +224,19 @@ pub fn close_to(
             frames,
         }),
         Some(Frame::Pending(pending)) => {
-            if tightness(&pending) < level {
-                let begin = begin_of(&pending);
-                let whole = join(alloc, pending, value)?;
-                close_to(alloc, level, begin, whole, frames)
-            } else {
-                let frames = pushed(frames, Frame::Pending(pending))?;
-                Ok(Closed {
-                    start,
-                    value,
-                    frames,
-                })
+            if tightness(&pending) >= level {
+                return closed_in(start, value, Frame::Pending(pending), frames);
+            }
+            let begin = begin_of(&pending);
+            match join(alloc, pending, value) {
+                Ok(whole) => close_to(alloc, level, begin, whole, frames),
+                Err(stop) => {
+                    discard(frames);
+                    Err(stop)
+                }
             }
         }
-        Some(frame) => {
-            let frames = pushed(frames, frame)?;
-            Ok(Closed {
-                start,
-                value,
-                frames,
-            })
-        }
+        Some(frame) => closed_in(start, value, frame, frames),
     }
 }
 

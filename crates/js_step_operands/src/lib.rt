@@ -5,6 +5,7 @@
 mod context;
 mod frames;
 mod operands;
+mod refusals;
 mod stop;
 mod wanting;
 
@@ -16,8 +17,12 @@ pub use frames::{
 pub use operands::{
     boxed, call_parts, continues, is_literal, is_of, parameter_of, target_of, value_of, wrapped,
 };
+pub use refusals::{
+    discard, discard_braces, discard_call, discard_frame, discard_operand, discard_part,
+    discard_token, discard_value, refused, refused_at, refused_in, stopped,
+};
 pub use stop::Stop;
 pub use wanting::{
-    below_due, called, heading, opens_list, piece, primary, reached, want, want_word, wants,
-    word_of,
+    below_due, called, heading, opens_list, piece, primary, reached, want, want_close_in,
+    want_word, wants, word_of,
 };

@@ -8,6 +8,7 @@ ghost use Rattle.js_ast.specs.declared.parts.Suffix.TheVariants as suffix;
 ghost use Rattle.js_reading.specs.Operands.{value_of, tail_of, target_of, parameter_of, first_of, suffixes_of, wrapped, is_literal};
 ghost use Rattle.js_step_operands.specs.Answers.{Gives, Makes};
 
+use crate::refusals::{discard_operand, discard_value};
 use crate::stop::Stop;
 use js_ast::{Access, Expr, Identifier, Suffix, Target};
 use js_grammar::TokenKind;
@@ -59,8 +60,13 @@ fn accessed(
 ) -> Result<Boxed<Expr>, Stop>
     ensures { Makes result (Expr.Call first (earlier ++ suffix.Access last ∷ [])) }
 {
-    let suffixes = suffixed(earlier, Suffix::Access(last))?;
-    boxed(alloc, Expr::Call { first, suffixes })
+    match suffixed(earlier, Suffix::Access(last)) {
+        Ok(suffixes) => boxed(alloc, Expr::Call { first, suffixes }),
+        Err(stop) => {
+            discard_value(first);
+            Err(stop)
+        }
+    }
 }
 
 fn name(alloc: Global, name: Identifier) -> Result<Boxed<Expr>, Stop>
@@ -170,7 +176,7 @@ pub fn target_of(alloc: Global, operand: Operand) -> Result<Target<Boxed<Expr>>,
             last,
         } => property_target(alloc, first, earlier, last),
         other => {
-            drop(other);
+            discard_operand(other);
             Err(Stop::Syntax)
         }
     }
@@ -184,7 +190,7 @@ pub fn parameter_of(operand: Operand) -> Result<Identifier, Stop>
         Operand::Name(name) => Ok(name),
         Operand::RoundName(name) => Ok(name),
         other => {
-            drop(other);
+            discard_operand(other);
             Err(Stop::Syntax)
         }
     }
@@ -202,9 +208,18 @@ pub fn call_parts(
             first,
             earlier,
             last,
-        } => { Ok((first, suffixed(earlier, Suffix::Access(last))?)) }
+        } => match suffixed(earlier, Suffix::Access(last)) {
+            Ok(suffixes) => Ok((first, suffixes)),
+            Err(stop) => {
+                discard_value(first);
+                Err(stop)
+            }
+        },
         Operand::Call { first, suffixes } => Ok((first, suffixes)),
-        operand => Ok((value_of(alloc, operand)?, Items::new(alloc))),
+        operand => match value_of(alloc, operand) {
+            Ok(value) => Ok((value, Items::new(alloc))),
+            Err(stop) => Err(stop),
+        },
     }
 }
 
@@ -236,7 +251,10 @@ pub fn wrapped(alloc: Global, operand: Operand) -> Result<Operand, Stop>
                 last,
             })
         }
-        operand => Ok(Operand::Primary(value_of(alloc, operand)?)),
+        operand => match value_of(alloc, operand) {
+            Ok(value) => Ok(Operand::Primary(value)),
+            Err(stop) => Err(stop),
+        },
     }
 }
 

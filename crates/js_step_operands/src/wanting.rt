@@ -12,6 +12,9 @@ ghost use Rattle.js_step_operands.specs.Answers.{Gives, Makes};
 use crate::context::context_of;
 use crate::frames::{pushed, takes_assign, takes_unary};
 use crate::operands::{boxed, suffixed};
+use crate::refusals::{
+    discard_part, discard_token, discard_value, refused, refused_at, refused_in, stopped,
+};
 use crate::stop::Stop;
 use js_ast::{BinaryOp, Expr, Identifier, StepOp, Suffix, UnaryOp};
 use js_grammar::{TokenKind, Word};
@@ -35,11 +38,13 @@ pub fn word_of(kind: &TokenKind) -> Option<Word>
 pub fn wants(frame: Frame, frames: Pile<Frame>) -> Result<Parser, Stop>
     ensures { Makes result (wants frame frames) }
 {
-    let frames = pushed(frames, frame)?;
-    Ok(Parser {
-        mode: Mode::Want,
-        frames,
-    })
+    match pushed(frames, frame) {
+        Ok(frames) => Ok(Parser {
+            mode: Mode::Want,
+            frames,
+        }),
+        Err(stop) => Err(stop),
+    }
 }
 
 /// An operand is there.
@@ -56,13 +61,19 @@ pub fn reached(start: u32, operand: Operand, frames: Pile<Frame>) -> Parser
 pub fn primary(alloc: Global, start: u32, value: Expr, frames: Pile<Frame>) -> Result<Parser, Stop>
     ensures { Gives (λ x. x) result (primary start value frames) }
 {
-    Ok(reached(start, Operand::Primary(boxed(alloc, value)?), frames))
+    match boxed(alloc, value) {
+        Ok(value) => Ok(reached(start, Operand::Primary(value), frames)),
+        Err(stop) => stopped(stop, frames),
+    }
 }
 
 fn literal(alloc: Global, start: u32, value: Expr, frames: Pile<Frame>) -> Result<Parser, Stop>
     ensures { Gives (λ x. x) result (literal start value frames) }
 {
-    Ok(reached(start, Operand::Literal(boxed(alloc, value)?), frames))
+    match boxed(alloc, value) {
+        Ok(value) => Ok(reached(start, Operand::Literal(value), frames)),
+        Err(stop) => stopped(stop, frames),
+    }
 }
 
 fn prefixed(op: UnaryOp, site: u32, frames: Pile<Frame>) -> Result<Parser, Stop>
@@ -71,8 +82,7 @@ fn prefixed(op: UnaryOp, site: u32, frames: Pile<Frame>) -> Result<Parser, Stop>
     if takes_unary(&frames) {
         return wants(Frame::Pending(Pending::Prefix { site, op }), frames);
     }
-    drop(frames);
-    Err(Stop::Syntax)
+    refused(frames)
 }
 
 fn stepped(op: StepOp, site: u32, frames: Pile<Frame>) -> Result<Parser, Stop>
@@ -81,8 +91,7 @@ fn stepped(op: StepOp, site: u32, frames: Pile<Frame>) -> Result<Parser, Stop>
     if takes_unary(&frames) {
         return wants(Frame::Step { site, op }, frames);
     }
-    drop(frames);
-    Err(Stop::Syntax)
+    refused(frames)
 }
 
 fn want_binary(op: BinaryOp, site: u32, frames: Pile<Frame>) -> Result<Parser, Stop>
@@ -91,10 +100,7 @@ fn want_binary(op: BinaryOp, site: u32, frames: Pile<Frame>) -> Result<Parser, S
     match op {
         BinaryOp::Add => prefixed(UnaryOp::Plus, site, frames),
         BinaryOp::Subtract => prefixed(UnaryOp::Minus, site, frames),
-        _ => {
-            drop(frames);
-            Err(Stop::Syntax)
-        }
+        _ => refused(frames),
     }
 }
 
@@ -104,8 +110,7 @@ fn want_this(alloc: Global, site: u32, frames: Pile<Frame>) -> Result<Parser, St
     if context_of(&frames).has_this {
         return primary(alloc, site, Expr::This { site }, frames);
     }
-    drop(frames);
-    Err(Stop::Syntax)
+    refused(frames)
 }
 
 /// The beginning of an operand.
@@ -140,10 +145,7 @@ pub fn want_word(alloc: Global, word: Word, site: u32, frames: Pile<Frame>) -> R
         Word::TypeOf => prefixed(UnaryOp::TypeOf, site, frames),
         Word::New => piece(Piece::New { site }, frames),
         Word::Function => piece(Piece::Function { site }, frames),
-        _ => {
-            drop(frames);
-            Err(Stop::Syntax)
-        }
+        _ => refused(frames),
     }
 }
 
@@ -155,11 +157,13 @@ pub fn opens_list(alloc: Global, braces: Braces, frames: Pile<Frame>) -> Result<
         braces,
         body: Items::new(alloc),
     };
-    let frames = pushed(frames, list)?;
-    Ok(Parser {
-        mode: Mode::Statement,
-        frames,
-    })
+    match pushed(frames, list) {
+        Ok(frames) => Ok(Parser {
+            mode: Mode::Statement,
+            frames,
+        }),
+        Err(stop) => Err(stop),
+    }
 }
 
 /// An object begins.
@@ -180,7 +184,10 @@ fn want_brace(alloc: Global, site: u32, frames: Pile<Frame>) -> Result<Parser, S
         Some(Frame::Pending(Pending::Arrow { start, parameters })) => {
             opens_list(alloc, Braces::Arrow { start, parameters }, frames)
         }
-        Some(frame) => opens_object(alloc, site, pushed(frames, frame)?),
+        Some(frame) => match pushed(frames, frame) {
+            Ok(frames) => opens_object(alloc, site, frames),
+            Err(stop) => Err(stop),
+        },
     }
 }
 
@@ -195,8 +202,13 @@ pub fn called(
 ) -> Result<Parser, Stop>
     ensures { Gives (λ x. x) result (called start first suffixes site arguments frames) }
 {
-    let suffixes = suffixed(suffixes, Suffix::Call { site, arguments })?;
-    Ok(reached(start, Operand::Call { first, suffixes }, frames))
+    match suffixed(suffixes, Suffix::Call { site, arguments }) {
+        Ok(suffixes) => Ok(reached(start, Operand::Call { first, suffixes }, frames)),
+        Err(stop) => {
+            discard_value(first);
+            stopped(stop, frames)
+        }
+    }
 }
 
 fn no_parameters(alloc: Global, start: u32, frames: Pile<Frame>) -> Result<Parser, Stop>
@@ -209,12 +221,11 @@ fn no_parameters(alloc: Global, start: u32, frames: Pile<Frame>) -> Result<Parse
             frames,
         });
     }
-    drop(frames);
-    Err(Stop::Syntax)
+    refused(frames)
 }
 
-/// `)` directly behind `(` or `,`.
-fn want_close_in(alloc: Global, bracket: Bracket, frames: Pile<Frame>) -> Result<Parser, Stop>
+/// `)` directly behind `(` or `,`, or behind the last expression of a list.
+pub fn want_close_in(alloc: Global, bracket: Bracket, frames: Pile<Frame>) -> Result<Parser, Stop>
     ensures { Gives (λ x. x) result (want_close_in bracket frames) }
 {
     match bracket {
@@ -242,11 +253,7 @@ fn want_close_in(alloc: Global, bracket: Bracket, frames: Pile<Frame>) -> Result
                 frames,
             )
         }
-        other => {
-            drop(other);
-            drop(frames);
-            Err(Stop::Syntax)
-        }
+        other => refused_in(other, frames),
     }
 }
 
@@ -259,11 +266,7 @@ fn want_square(alloc: Global, frames: Pile<Frame>) -> Result<Parser, Stop>
         Some(Frame::Bracket(Bracket::Array { site, items })) => {
             primary(alloc, site, Expr::Array { site, items }, frames)
         }
-        other => {
-            drop(other);
-            drop(frames);
-            Err(Stop::Syntax)
-        }
+        other => refused_at(other, frames),
     }
 }
 
@@ -283,11 +286,7 @@ fn no_test(frames: Pile<Frame>) -> Result<Parser, Stop>
                 frames,
             )
         }
-        other => {
-            drop(other);
-            drop(frames);
-            Err(Stop::Syntax)
-        }
+        other => refused_at(other, frames),
     }
 }
 
@@ -295,11 +294,13 @@ fn no_test(frames: Pile<Frame>) -> Result<Parser, Stop>
 pub fn below_due(below: Below, frames: Pile<Frame>) -> Result<Parser, Stop>
     ensures { Gives (λ x. x) result (below_due below frames) }
 {
-    let frames = pushed(frames, Frame::Below(below))?;
-    Ok(Parser {
-        mode: Mode::Below,
-        frames,
-    })
+    match pushed(frames, Frame::Below(below)) {
+        Ok(frames) => Ok(Parser {
+            mode: Mode::Below,
+            frames,
+        }),
+        Err(stop) => Err(stop),
+    }
 }
 
 /// A `for` with no update.
@@ -319,9 +320,8 @@ fn no_update(part: Part, frames: Pile<Frame>) -> Result<Parser, Stop>
             )
         }
         other => {
-            drop(other);
-            drop(frames);
-            Err(Stop::Syntax)
+            discard_part(other);
+            refused(frames)
         }
     }
 }
@@ -333,11 +333,7 @@ fn want_close(alloc: Global, frames: Pile<Frame>) -> Result<Parser, Stop>
     match frames.pop() {
         Some(Frame::Bracket(bracket)) => want_close_in(alloc, bracket, frames),
         Some(Frame::Part(part)) => no_update(part, frames),
-        other => {
-            drop(other);
-            drop(frames);
-            Err(Stop::Syntax)
-        }
+        other => refused_at(other, frames),
     }
 }
 
@@ -364,10 +360,7 @@ fn want_mark(
         TokenKind::CloseRound => want_close(alloc, frames),
         TokenKind::CloseSquare => want_square(alloc, frames),
         TokenKind::Semicolon => no_test(frames),
-        _ => {
-            drop(frames);
-            Err(Stop::Syntax)
-        }
+        _ => refused(frames),
     }
 }
 
@@ -384,7 +377,7 @@ pub fn want(alloc: Global, site: u32, frames: Pile<Frame>, kind: TokenKind) -> R
         TokenKind::Text(value) => literal(alloc, site, Expr::Text { site, value }, frames),
         mark => {
             let wanted = want_mark(alloc, site, frames, &mark);
-            drop(mark);
+            discard_token(mark);
             wanted
         }
     }

@@ -1,11 +1,12 @@
 //! Arrows behind parameters.
 
+ghost use Rattle.std.specs.Prelude.{◌∷◌, []};
 ghost use Rattle.js_reading.specs.Operands.{to_arrow, on_arrow};
-ghost use Rattle.js_step_operands.specs.Answers.{Gives};
+ghost use Rattle.js_step_operands.specs.Answers.{Gives, Makes};
 
 use js_ast::Identifier;
 use js_reading::{Frame, Operand, Parser, Pending, Pile};
-use js_step_operands::{Stop, parameter_of, takes_assign, wants};
+use js_step_operands::{Stop, parameter_of, refused, stopped, takes_assign, wants};
 use sqlite_items::Items;
 use std::alloc::Global;
 
@@ -20,10 +21,18 @@ pub fn to_arrow(
 {
     if line {
         drop(parameters);
-        drop(frames);
-        return Err(Stop::Syntax);
+        return refused(frames);
     }
     wants(Frame::Pending(Pending::Arrow { start, parameters }), frames)
+}
+
+/// A list of the one name.
+fn alone(alloc: Global, name: Identifier) -> Result<Items<Identifier>, Stop>
+    ensures { Makes result (name ∷ []) }
+{
+    let mut names = Items::new(alloc);
+    names.push(name)?;
+    Ok(names)
 }
 
 /// `=>` behind a name.
@@ -36,13 +45,17 @@ pub fn on_arrow(
 ) -> Result<Parser, Stop>
     ensures { Gives (λ x. x) result (on_arrow line start operand frames) }
 {
-    let name = parameter_of(operand)?;
-    if takes_assign(&frames) {
-        let mut names = Items::new(alloc);
-        names.push(name)?;
-        return to_arrow(line, start, names, frames);
+    match parameter_of(operand) {
+        Ok(name) => {
+            if takes_assign(&frames) {
+                return match alone(alloc, name) {
+                    Ok(names) => to_arrow(line, start, names, frames),
+                    Err(stop) => stopped(stop, frames),
+                };
+            }
+            drop(name);
+            refused(frames)
+        }
+        Err(stop) => stopped(stop, frames),
     }
-    drop(name);
-    drop(frames);
-    Err(Stop::Syntax)
 }

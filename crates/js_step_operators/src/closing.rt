@@ -7,7 +7,10 @@ ghost use Rattle.js_step_operands.specs.Answers.{Gives, Makes};
 
 use js_ast::{Expr, StepOp, Target};
 use js_reading::{Closed, Frame, Operand, Pile};
-use js_step_operands::{ALL, Stop, boxed, close_to, pushed, target_of, value_of};
+use js_step_operands::{
+    ALL, Stop, boxed, close_to, discard, discard_frame, discard_operand, pushed, target_of,
+    value_of,
+};
 use sqlite_items::Boxed;
 use std::alloc::Global;
 
@@ -36,15 +39,20 @@ fn prefix_step(
 fn plain(alloc: Global, start: u32, operand: Operand, frames: Pile<Frame>) -> Result<Closed, Stop>
     ensures { Makes result (record { start = start; value = value_of operand; frames = frames }) }
 {
-    let value = value_of(alloc, operand)?;
-    Ok(Closed {
-        start,
-        value,
-        frames,
-    })
+    match value_of(alloc, operand) {
+        Ok(value) => Ok(Closed {
+            start,
+            value,
+            frames,
+        }),
+        Err(stop) => {
+            discard(frames);
+            Err(stop)
+        }
+    }
 }
 
-/// The tree of `++` or `--` and the operand.
+/// `++` or `--` ends with its operand.
 fn stepped(
     alloc: Global,
     site: u32,
@@ -54,13 +62,23 @@ fn stepped(
 ) -> Result<Closed, Stop>
     ensures { Gives (λ x. x) result (settled site operand (frame.Step site op ∷ frames)) }
 {
-    let target = target_of(alloc, operand)?;
-    let value = prefix_step(alloc, site, op, target)?;
-    Ok(Closed {
-        start: site,
-        value,
-        frames,
-    })
+    match target_of(alloc, operand) {
+        Ok(target) => match prefix_step(alloc, site, op, target) {
+            Ok(value) => Ok(Closed {
+                start: site,
+                value,
+                frames,
+            }),
+            Err(stop) => {
+                discard(frames);
+                Err(stop)
+            }
+        },
+        Err(stop) => {
+            discard(frames);
+            Err(stop)
+        }
+    }
 }
 
 /// The operand's tree, or that of the `++` or `--` before it.
@@ -68,13 +86,17 @@ fn settled(alloc: Global, start: u32, operand: Operand, frames: Pile<Frame>) -> 
     ensures { Gives (λ x. x) result (settled start operand frames) }
 {
     let mut frames = frames;
-    match frames.pop() {
+    let around = frames.pop();
+    match around {
         None => plain(alloc, start, operand, frames),
-        Some(Frame::Step { site, op }) => stepped(alloc, site, op, operand, frames),
+        Some(Frame::Step { site, op }) => {
+            discard_frame(around);
+            stepped(alloc, site, op, operand, frames)
+        }
         Some(frame) => match pushed(frames, frame) {
             Ok(frames) => plain(alloc, start, operand, frames),
             Err(stop) => {
-                drop(operand);
+                discard_operand(operand);
                 Err(stop)
             }
         },
@@ -91,12 +113,16 @@ pub fn closed(
 ) -> Result<Closed, Stop>
     ensures { Gives (λ x. x) result (closed level start operand frames) }
 {
-    let Closed {
-        start,
-        value,
-        frames,
-    } = settled(alloc, start, operand, frames)?;
-    close_to(alloc, level, start, value, frames)
+    match settled(alloc, start, operand, frames) {
+        Ok(
+            Closed {
+                start,
+                value,
+                frames,
+            },
+        ) => close_to(alloc, level, start, value, frames),
+        Err(stop) => Err(stop),
+    }
 }
 
 /// All ends with the operand that may.

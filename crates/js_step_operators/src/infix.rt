@@ -11,7 +11,10 @@ use crate::suffixes::{on_dot, on_round, on_square};
 use js_ast::BinaryOp;
 use js_grammar::TokenKind;
 use js_reading::{Bracket, Closed, Frame, Operand, Parser, Pending, Pile};
-use js_step_operands::{CONDITIONAL, Stop, takes_assign, target_of, wants};
+use js_step_operands::{
+    CONDITIONAL, Stop, discard_operand, discard_token, refused, stopped, takes_assign, target_of,
+    wants,
+};
 use std::alloc::Global;
 
 fn on_question(
@@ -23,19 +26,23 @@ fn on_question(
 ) -> Result<Parser, Stop>
     ensures { Gives (λ x. x) result (on_question site start operand frames) }
 {
-    let Closed {
-        start,
-        value,
-        frames,
-    } = closed(alloc, CONDITIONAL, start, operand, frames)?;
-    wants(
-        Frame::Bracket(Bracket::Question {
-            start,
-            site,
-            test: value,
-        }),
-        frames,
-    )
+    match closed(alloc, CONDITIONAL, start, operand, frames) {
+        Ok(
+            Closed {
+                start,
+                value,
+                frames,
+            },
+        ) => wants(
+            Frame::Bracket(Bracket::Question {
+                start,
+                site,
+                test: value,
+            }),
+            frames,
+        ),
+        Err(stop) => Err(stop),
+    }
 }
 
 fn on_assign(
@@ -48,21 +55,24 @@ fn on_assign(
 ) -> Result<Parser, Stop>
     ensures { Gives (λ x. x) result (on_assign op site start operand frames) }
 {
-    let target = target_of(alloc, operand)?;
-    if takes_assign(&frames) {
-        return wants(
-            Frame::Pending(Pending::Assign {
-                start,
-                site,
-                op,
-                target,
-            }),
-            frames,
-        );
+    match target_of(alloc, operand) {
+        Ok(target) => {
+            if takes_assign(&frames) {
+                return wants(
+                    Frame::Pending(Pending::Assign {
+                        start,
+                        site,
+                        op,
+                        target,
+                    }),
+                    frames,
+                );
+            }
+            drop(target);
+            refused(frames)
+        }
+        Err(stop) => stopped(stop, frames),
     }
-    drop(target);
-    drop(frames);
-    Err(Stop::Syntax)
 }
 
 fn continues(
@@ -84,9 +94,8 @@ fn continues(
         TokenKind::Assign(op) => on_assign(alloc, *op, site, start, operand, frames),
         TokenKind::Question => on_question(alloc, site, start, operand, frames),
         _ => {
-            drop(operand);
-            drop(frames);
-            Err(Stop::Syntax)
+            discard_operand(operand);
+            refused(frames)
         }
     }
 }
@@ -103,6 +112,6 @@ pub fn continued(
     ensures { Gives (λ x. x) result (continues_by site start operand frames kind) }
 {
     let read = continues(alloc, site, start, operand, frames, &kind);
-    drop(kind);
+    discard_token(kind);
     read
 }

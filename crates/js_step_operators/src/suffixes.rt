@@ -1,15 +1,43 @@
 //! `++`, `--` and suffixes behind an operand.
 
-ghost use Rattle.js_reading.specs.Operands.{on_step, on_dot, on_round, on_square};
-ghost use Rattle.js_step_operands.specs.Answers.{Gives};
+ghost use Rattle.std.specs.Prelude.{false};
+ghost use Rattle.js_reading.specs.Operands.{reached, on_step, on_dot, on_round, on_square};
+ghost use Rattle.js_reading.specs.declared.mode.Operand.TheVariants as operand;
+ghost use Rattle.js_step_operands.specs.Answers.{Gives, Makes};
 
-use js_ast::{Expr, StepOp};
-use js_reading::{Bracket, Frame, Mode, Operand, Parser, Piece, Pile};
-use js_step_operands::{Stop, boxed, call_parts, reached, takes_unary, target_of, wants};
-use sqlite_items::Items;
+use js_ast::{Expr, StepOp, Target};
+use js_reading::{Bracket, Frame, Operand, Parser, Piece, Pile};
+use js_step_operands::{
+    Stop, boxed, call_parts, piece, reached, refused, stopped, takes_unary, target_of, wants,
+};
+use sqlite_items::{Boxed, Items};
 use std::alloc::Global;
 
-/// `++` or `--` behind a target.
+/// The tree of a target and the `++` or `--` behind it.
+fn postfix(
+    alloc: Global,
+    op: StepOp,
+    site: u32,
+    start: u32,
+    target: Target<Boxed<Expr>>,
+    frames: Pile<Frame>,
+) -> Result<Parser, Stop>
+    ensures { Makes result (reached start (operand.Stepped (Expr.Step start site op false target)) frames) }
+{
+    let step = Expr::Step {
+        start,
+        site,
+        op,
+        is_prefix: false,
+        target,
+    };
+    match boxed(alloc, step) {
+        Ok(value) => Ok(reached(start, Operand::Stepped(value), frames)),
+        Err(stop) => stopped(stop, frames),
+    }
+}
+
+/// `++` or `--` behind an operand.
 pub fn on_step(
     alloc: Global,
     op: StepOp,
@@ -20,23 +48,16 @@ pub fn on_step(
 ) -> Result<Parser, Stop>
     ensures { Gives (λ x. x) result (on_step op site start operand frames) }
 {
-    let target = target_of(alloc, operand)?;
-    if takes_unary(&frames) {
-        let value = boxed(
-            alloc,
-            Expr::Step {
-                start,
-                site,
-                op,
-                is_prefix: false,
-                target,
-            },
-        )?;
-        return Ok(reached(start, Operand::Stepped(value), frames));
+    match target_of(alloc, operand) {
+        Ok(target) => {
+            if takes_unary(&frames) {
+                return postfix(alloc, op, site, start, target, frames);
+            }
+            drop(target);
+            refused(frames)
+        }
+        Err(stop) => stopped(stop, frames),
     }
-    drop(target);
-    drop(frames);
-    Err(Stop::Syntax)
 }
 
 /// `.`.
@@ -49,16 +70,18 @@ pub fn on_dot(
 ) -> Result<Parser, Stop>
     ensures { Gives (λ x. x) result (on_dot site start operand frames) }
 {
-    let (first, suffixes) = call_parts(alloc, operand)?;
-    Ok(Parser {
-        mode: Mode::Piece(Piece::Property {
-            start,
-            first,
-            suffixes,
-            site,
-        }),
-        frames,
-    })
+    match call_parts(alloc, operand) {
+        Ok((first, suffixes)) => piece(
+            Piece::Property {
+                start,
+                first,
+                suffixes,
+                site,
+            },
+            frames,
+        ),
+        Err(stop) => stopped(stop, frames),
+    }
 }
 
 /// `(` of a call.
@@ -71,18 +94,22 @@ pub fn on_round(
 ) -> Result<Parser, Stop>
     ensures { Gives (λ x. x) result (on_round site start operand frames) }
 {
-    let (first, suffixes) = call_parts(alloc, operand)?;
-    let arguments = Items::new(alloc);
-    wants(
-        Frame::Bracket(Bracket::Call {
-            start,
-            first,
-            suffixes,
-            site,
-            arguments,
-        }),
-        frames,
-    )
+    match call_parts(alloc, operand) {
+        Ok((first, suffixes)) => {
+            let arguments = Items::new(alloc);
+            wants(
+                Frame::Bracket(Bracket::Call {
+                    start,
+                    first,
+                    suffixes,
+                    site,
+                    arguments,
+                }),
+                frames,
+            )
+        }
+        Err(stop) => stopped(stop, frames),
+    }
 }
 
 /// `[`.
@@ -95,14 +122,16 @@ pub fn on_square(
 ) -> Result<Parser, Stop>
     ensures { Gives (λ x. x) result (on_square site start operand frames) }
 {
-    let (first, suffixes) = call_parts(alloc, operand)?;
-    wants(
-        Frame::Bracket(Bracket::Index {
-            start,
-            first,
-            suffixes,
-            site,
-        }),
-        frames,
-    )
+    match call_parts(alloc, operand) {
+        Ok((first, suffixes)) => wants(
+            Frame::Bracket(Bracket::Index {
+                start,
+                first,
+                suffixes,
+                site,
+            }),
+            frames,
+        ),
+        Err(stop) => stopped(stop, frames),
+    }
 }

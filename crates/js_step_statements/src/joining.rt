@@ -1,7 +1,8 @@
 //! What ends with a statement, or with the braces around a list.
 
-ghost use Rattle.std.specs.Prelude.{◌≡◌};
-ghost use Rattle.js_reading.specs.Operands.{at};
+ghost use Rattle.std.specs.Prelude.{◌≡◌, ◌∷◌};
+ghost use Rattle.js_reading.specs.Operands.{at, reached};
+ghost use Rattle.js_reading.specs.declared.mode.Operand.TheVariants as operand;
 ghost use Rattle.js_reading.specs.declared.mode.Mode.TheVariants as mode;
 ghost use Rattle.js_reading.specs.Statements.{over, arm, joined, waits, settle, close_list, close_braces};
 ghost use Rattle.js_step_operands.specs.Answers.{Gives, Makes};
@@ -9,7 +10,9 @@ ghost use Rattle.js_step_operands.specs.Answers.{Gives, Makes};
 use crate::sections::{boxed, over};
 use js_ast::{Arm, Catch, Expr, Stmt};
 use js_reading::{Below, Braces, Frame, Mode, Operand, Over, Parser, Pile, Trying};
-use js_step_operands::{Stop, primary, pushed, reached};
+use js_step_operands::{
+    Stop, boxed as tree, discard, primary, pushed, reached, refused, refused_at, stopped,
+};
 use sqlite_items::{Boxed, Items};
 use std::alloc::Global;
 
@@ -36,9 +39,12 @@ fn joined(alloc: Global, below: Below, stmt: Boxed<Stmt>) -> Result<Boxed<Stmt>,
     ensures { Makes result (joined below stmt) }
 {
     let whole = match below {
-        Below::Then { arms, site, test } => Stmt::If {
-            arms: with_arm(arms, site, test, stmt)?,
-            alternate: None,
+        Below::Then { arms, site, test } => match with_arm(arms, site, test, stmt) {
+            Ok(arms) => Stmt::If {
+                arms,
+                alternate: None,
+            },
+            Err(stop) => return Err(stop),
         },
         Below::Else { arms } => Stmt::If {
             arms,
@@ -93,6 +99,22 @@ fn waits(is_else: bool, below: &Below) -> bool
     }
 }
 
+/// A statement inside a frame that is put back.
+fn settled_in(stmt: Boxed<Stmt>, frame: Frame, frames: Pile<Frame>) -> Result<Over, Stop>
+    ensures { Makes result (record { value = stmt; frames = frame ∷ frames }) }
+{
+    match pushed(frames, frame) {
+        Ok(frames) => Ok(Over {
+            value: stmt,
+            frames,
+        }),
+        Err(stop) => {
+            drop(stmt);
+            Err(stop)
+        }
+    }
+}
+
 /// What ends with a statement.
 pub fn settle(
     alloc: Global,
@@ -110,23 +132,17 @@ pub fn settle(
         }),
         Some(Frame::Below(below)) => {
             if waits(is_else, &below) {
-                let frames = pushed(frames, Frame::Below(below))?;
-                Ok(Over {
-                    value: stmt,
-                    frames,
-                })
-            } else {
-                let whole = joined(alloc, below, stmt)?;
-                settle(alloc, is_else, whole, frames)
+                return settled_in(stmt, Frame::Below(below), frames);
+            }
+            match joined(alloc, below, stmt) {
+                Ok(whole) => settle(alloc, is_else, whole, frames),
+                Err(stop) => {
+                    discard(frames);
+                    Err(stop)
+                }
             }
         }
-        Some(frame) => {
-            let frames = pushed(frames, frame)?;
-            Ok(Over {
-                value: stmt,
-                frames,
-            })
-        }
+        Some(frame) => settled_in(stmt, frame, frames),
     }
 }
 
@@ -134,7 +150,10 @@ pub fn settle(
 pub fn over_with(alloc: Global, stmt: Stmt, frames: Pile<Frame>) -> Result<Parser, Stop>
     ensures { Makes result (over stmt frames) }
 {
-    Ok(over(boxed(alloc, stmt)?, frames))
+    match boxed(alloc, stmt) {
+        Ok(stmt) => Ok(over(stmt, frames)),
+        Err(stop) => stopped(stop, frames),
+    }
 }
 
 /// A `try` between its parts.
@@ -147,6 +166,16 @@ pub fn trying(trying: Trying, frames: Pile<Frame>) -> Result<Parser, Stop>
     })
 }
 
+/// An arrow that ends in braces.
+fn braced(alloc: Global, start: u32, arrow: Expr, frames: Pile<Frame>) -> Result<Parser, Stop>
+    ensures { Makes result (reached start (operand.Braced arrow) frames) }
+{
+    match tree(alloc, arrow) {
+        Ok(arrow) => Ok(reached(start, Operand::Braced(arrow), frames)),
+        Err(stop) => stopped(stop, frames),
+    }
+}
+
 /// The braces around statements close.
 fn close_list(
     alloc: Global,
@@ -157,7 +186,10 @@ fn close_list(
     ensures { Gives (λ x. x) result (close_list braces body frames) }
 {
     match braces {
-        Braces::Script => Err(Stop::Syntax),
+        Braces::Script => {
+            drop(body);
+            refused(frames)
+        }
         Braces::Block { site } => over_with(alloc, Stmt::Block { site, body }, frames),
         Braces::Function {
             site,
@@ -193,15 +225,16 @@ fn close_list(
             )
         }
         Braces::Arrow { start, parameters } => {
-            let value = Boxed::new(
+            braced(
                 alloc,
+                start,
                 Expr::ArrowBlock {
                     site: start,
                     parameters,
                     body,
                 },
-            )?;
-            Ok(reached(start, Operand::Braced(value), frames))
+                frames,
+            )
         }
         Braces::Try { site } => trying(Trying::Tried { site, body }, frames),
         Braces::Catch {
@@ -246,9 +279,6 @@ pub fn close_braces(alloc: Global, frames: Pile<Frame>) -> Result<Parser, Stop>
     let mut frames = frames;
     match frames.pop() {
         Some(Frame::List { braces, body }) => close_list(alloc, braces, body, frames),
-        other => {
-            drop(other);
-            Err(Stop::Syntax)
-        }
+        other => refused_at(other, frames),
     }
 }

@@ -10,4 +10,4 @@ pub use sections::{
     bare, boxed, close_round_part, comma_part, declaration_over, declares_more, is_let,
     is_statement, on_semicolon, over, over_of,
 };
-pub use statements::{after, below, braces_due, declaration, item, opening, want_part};
+pub use statements::{after, below, braces_due, declaration, item, opening, want_part, with_stmt};

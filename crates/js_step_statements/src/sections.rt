@@ -9,7 +9,10 @@ use js_ast::{DeclarationKind, Declarator, Expr, Identifier, LoopHead, Stmt};
 use js_reading::{
     Below, Declaring, Ending, Frame, Mode, Opening, Operand, Over, Parser, Part, Pile, Place,
 };
-use js_step_operands::{Stop, below_due, wants};
+use js_step_operands::{
+    Stop, below_due, discard, discard_frame, discard_part, discard_value, refused, refused_at,
+    stopped, wants,
+};
 use js_step_operators::whole;
 use sqlite_items::{Boxed, Items};
 use std::alloc::Global;
@@ -68,15 +71,17 @@ fn declared(
         declarators,
         ..
     } = declaring;
-    let declarators = with_declarator(declarators, name, value)?;
-    boxed(
-        alloc,
-        Stmt::Declare {
-            site,
-            kind,
-            declarators,
-        },
-    )
+    match with_declarator(declarators, name, value) {
+        Ok(declarators) => boxed(
+            alloc,
+            Stmt::Declare {
+                site,
+                kind,
+                declarators,
+            },
+        ),
+        Err(stop) => Err(stop),
+    }
 }
 
 /// The declaration that ends with a name.
@@ -96,6 +101,8 @@ fn of_part(alloc: Global, part: Part, value: Boxed<Expr>) -> Result<Boxed<Stmt>,
             if is_statement(declaring.place) {
                 return declared(alloc, declaring, name, Some(value));
             }
+            discard_value(value);
+            discard_part(Part::Declare { declaring, name });
             Err(Stop::Syntax)
         }
         Part::Return { site } => {
@@ -109,7 +116,8 @@ fn of_part(alloc: Global, part: Part, value: Boxed<Expr>) -> Result<Boxed<Stmt>,
         }
         Part::Throw { site } => boxed(alloc, Stmt::Throw { site, value }),
         other => {
-            drop(other);
+            discard_value(value);
+            discard_part(other);
             Err(Stop::Syntax)
         }
     }
@@ -121,12 +129,17 @@ pub fn over_of(alloc: Global, value: Boxed<Expr>, frames: Pile<Frame>) -> Result
 {
     let mut frames = frames;
     match frames.pop() {
-        Some(Frame::Part(part)) => Ok(Over {
-            value: of_part(alloc, part, value)?,
-            frames,
-        }),
+        Some(Frame::Part(part)) => match of_part(alloc, part, value) {
+            Ok(value) => Ok(Over { value, frames }),
+            Err(stop) => {
+                discard(frames);
+                Err(stop)
+            }
+        },
         other => {
-            drop(other);
+            discard_value(value);
+            discard_frame(other);
+            discard(frames);
             Err(Stop::Syntax)
         }
     }
@@ -153,7 +166,10 @@ pub fn declaration_over(
     ensures { Makes result (declaration_over declaring name value frames) }
 {
     if is_statement(declaring.place) {
-        return Ok(over(declared(alloc, declaring, name, value)?, frames));
+        return match declared(alloc, declaring, name, value) {
+            Ok(stmt) => Ok(over(stmt, frames)),
+            Err(stop) => stopped(stop, frames),
+        };
     }
     let Declaring {
         site,
@@ -161,9 +177,13 @@ pub fn declaration_over(
         declarators,
         ..
     } = declaring;
-    let declarators = with_declarator(declarators, name, value)?;
-    let head = LoopHead::Declare { kind, declarators };
-    wants(Frame::Part(Part::ForTest { site, head }), frames)
+    match with_declarator(declarators, name, value) {
+        Ok(declarators) => {
+            let head = LoopHead::Declare { kind, declarators };
+            wants(Frame::Part(Part::ForTest { site, head }), frames)
+        }
+        Err(stop) => stopped(stop, frames),
+    }
 }
 
 fn semicolon_part(
@@ -186,7 +206,10 @@ fn semicolon_part(
         Part::Declare { declaring, name } => {
             declaration_over(alloc, declaring, name, Some(value), frames)
         }
-        part => Ok(over(of_part(alloc, part, value)?, frames)),
+        part => match of_part(alloc, part, value) {
+            Ok(stmt) => Ok(over(stmt, frames)),
+            Err(stop) => stopped(stop, frames),
+        },
     }
 }
 
@@ -197,8 +220,8 @@ fn semicolon_of(alloc: Global, value: Boxed<Expr>, frames: Pile<Frame>) -> Resul
     match frames.pop() {
         Some(Frame::Part(part)) => semicolon_part(alloc, value, part, frames),
         other => {
-            drop(other);
-            Err(Stop::Syntax)
+            discard_value(value);
+            refused_at(other, frames)
         }
     }
 }
@@ -212,8 +235,10 @@ pub fn on_semicolon(
 ) -> Result<Parser, Stop>
     ensures { Gives (λ x. x) result (on_semicolon start operand frames) }
 {
-    let closed = whole(alloc, start, operand, frames)?;
-    semicolon_of(alloc, closed.value, closed.frames)
+    match whole(alloc, start, operand, frames) {
+        Ok(closed) => semicolon_of(alloc, closed.value, closed.frames),
+        Err(stop) => Err(stop),
+    }
 }
 
 fn do_over(
@@ -232,10 +257,13 @@ fn do_over(
         test_site,
         test,
     };
-    Ok(Parser {
-        mode: Mode::Ending(Ending::Do(boxed(alloc, stmt)?)),
-        frames,
-    })
+    match boxed(alloc, stmt) {
+        Ok(stmt) => Ok(Parser {
+            mode: Mode::Ending(Ending::Do(stmt)),
+            frames,
+        }),
+        Err(stop) => stopped(stop, frames),
+    }
 }
 
 /// `)` behind an expression that is a part of a statement.
@@ -286,8 +314,9 @@ pub fn close_round_part(
             )
         }
         other => {
-            drop(other);
-            Err(Stop::Syntax)
+            discard_value(value);
+            discard_part(other);
+            refused(frames)
         }
     }
 }
@@ -307,17 +336,21 @@ pub fn declares_more(
         kind,
         declarators,
     } = declaring;
-    let declarators = with_declarator(declarators, name, value)?;
-    let declaring = Declaring {
-        place,
-        site,
-        kind,
-        declarators,
-    };
-    Ok(Parser {
-        mode: Mode::Opening(Opening::Declare(declaring)),
-        frames,
-    })
+    match with_declarator(declarators, name, value) {
+        Ok(declarators) => {
+            let declaring = Declaring {
+                place,
+                site,
+                kind,
+                declarators,
+            };
+            Ok(Parser {
+                mode: Mode::Opening(Opening::Declare(declaring)),
+                frames,
+            })
+        }
+        Err(stop) => stopped(stop, frames),
+    }
 }
 
 /// `,` behind an expression that is a part of a statement.
@@ -332,8 +365,9 @@ pub fn comma_part(
     match part {
         Part::Declare { declaring, name } => { declares_more(declaring, name, Some(value), frames) }
         other => {
-            drop(other);
-            Err(Stop::Syntax)
+            discard_value(value);
+            discard_part(other);
+            refused(frames)
         }
     }
 }

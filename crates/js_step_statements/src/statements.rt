@@ -6,7 +6,7 @@ ghost use Rattle.js_reading.specs.Reading.{below_by};
 ghost use Rattle.js_grammar.specs.declared.token.Word.TheVariants as word;
 ghost use Rattle.js_reading.specs.declared.frame.Frame.TheVariants as frame;
 ghost use Rattle.js_reading.specs.declared.mode.Mode.TheVariants as mode;
-ghost use Rattle.js_reading.specs.Statements.{settle, test_due, jump_in_loop, loop_word, express, inner_word, inner, declaration, item_word, item, next_item, on_else, on_while, after, braces_due};
+ghost use Rattle.js_reading.specs.Statements.{settle, test_due, jump_in_loop, loop_word, inner_word, inner, declaration, item_word, item, next_item, on_else, on_while, after, braces_due};
 ghost use Rattle.js_step_operands.specs.Answers.{Gives, Makes};
 
 use crate::joining::{close_braces, over_with, settle, with_arm};
@@ -17,7 +17,8 @@ use js_reading::{
     Below, Braces, Declaring, Ending, Frame, Heading, Mode, Opening, Parser, Part, Pile, Place,
 };
 use js_step_operands::{
-    Stop, below_due, context_of, heading, opens_list, pushed, want, want_word, word_of,
+    Stop, below_due, context_of, discard, discard_braces, discard_frame, discard_token, heading,
+    opens_list, pushed, refused, refused_at, stopped, want, want_word, word_of,
 };
 use sqlite_items::{Boxed, Items};
 use std::alloc::Global;
@@ -25,11 +26,13 @@ use std::alloc::Global;
 fn test_due(part: Part, frames: Pile<Frame>) -> Result<Parser, Stop>
     ensures { Gives (λ x. x) result (test_due part frames) }
 {
-    let frames = pushed(frames, Frame::Part(part))?;
-    Ok(Parser {
-        mode: Mode::Opening(Opening::Test),
-        frames,
-    })
+    match pushed(frames, Frame::Part(part)) {
+        Ok(frames) => Ok(Parser {
+            mode: Mode::Opening(Opening::Test),
+            frames,
+        }),
+        Err(stop) => Err(stop),
+    }
 }
 
 fn ending(ending: Ending, frames: Pile<Frame>) -> Result<Parser, Stop>
@@ -55,10 +58,13 @@ fn jump(alloc: Global, stmt: Stmt, frames: Pile<Frame>) -> Result<Parser, Stop>
     ensures { Gives (λ x. x) result (jump_in_loop stmt frames) }
 {
     if context_of(&frames).in_loop {
-        return ending(Ending::Jump(boxed(alloc, stmt)?), frames);
+        return match boxed(alloc, stmt) {
+            Ok(stmt) => ending(Ending::Jump(stmt), frames),
+            Err(stop) => stopped(stop, frames),
+        };
     }
     drop(stmt);
-    Err(Stop::Syntax)
+    refused(frames)
 }
 
 fn begins_return(site: u32, frames: Pile<Frame>) -> Result<Parser, Stop>
@@ -67,14 +73,7 @@ fn begins_return(site: u32, frames: Pile<Frame>) -> Result<Parser, Stop>
     if context_of(&frames).in_function {
         return ending(Ending::Return { site }, frames);
     }
-    Err(Stop::Syntax)
-}
-
-/// An expression that is a statement.
-fn express(site: u32, frames: Pile<Frame>) -> Result<Pile<Frame>, Stop>
-    ensures { Makes result (express site frames) }
-{
-    pushed(frames, Frame::Part(Part::Express { site }))
+    refused(frames)
 }
 
 /// An expression begins that is a part of a statement.
@@ -90,7 +89,7 @@ pub fn want_part(
     match pushed(frames, Frame::Part(part)) {
         Ok(frames) => want(alloc, site, frames, kind),
         Err(stop) => {
-            drop(kind);
+            discard_token(kind);
             Err(stop)
         }
     }
@@ -114,7 +113,10 @@ fn loop_word(alloc: Global, word: Word, site: u32, frames: Pile<Frame>) -> Resul
         Word::While => test_due(Part::While { site }, frames),
         Word::Do => below_due(Below::Do { site }, frames),
         Word::For => opening(Opening::For { site }, frames),
-        word => want_word(alloc, word, site, express(site, frames)?),
+        word => match pushed(frames, Frame::Part(Part::Express { site })) {
+            Ok(frames) => want_word(alloc, word, site, frames),
+            Err(stop) => Err(stop),
+        },
     }
 }
 
@@ -128,7 +130,7 @@ fn inner_word(alloc: Global, word: Word, site: u32, frames: Pile<Frame>) -> Resu
         Word::Return => begins_return(site, frames),
         Word::Throw => ending(Ending::Throw { site }, frames),
         Word::Try => braces_due(Braces::Try { site }, frames),
-        Word::Function => Err(Stop::Syntax),
+        Word::Function => refused(frames),
         word => loop_word(alloc, word, site, frames),
     }
 }
@@ -138,16 +140,10 @@ pub fn inner(alloc: Global, site: u32, frames: Pile<Frame>, kind: TokenKind) -> 
     ensures { Gives (λ x. x) result (inner site frames kind) }
 {
     match kind {
-        TokenKind::OpenBrace => {
-            drop(kind);
-            opens_list(alloc, Braces::Block { site }, frames)
-        }
-        TokenKind::Semicolon => {
-            drop(kind);
-            over_with(alloc, Stmt::Nothing { site }, frames)
-        }
+        TokenKind::OpenBrace => { opens_list(alloc, Braces::Block { site }, frames) }
+        TokenKind::Semicolon => { over_with(alloc, Stmt::Nothing { site }, frames) }
         TokenKind::Word { word, .. } => {
-            drop(kind);
+            discard_token(kind);
             inner_word(alloc, word, site, frames)
         }
         _ => want_part(alloc, Part::Express { site }, site, frames, kind),
@@ -167,7 +163,7 @@ fn inner_below(
     match pushed(frames, frame) {
         Ok(frames) => inner(alloc, site, frames, kind),
         Err(stop) => {
-            drop(kind);
+            discard_token(kind);
             Err(stop)
         }
     }
@@ -177,18 +173,20 @@ fn inner_below(
 pub fn below(alloc: Global, site: u32, frames: Pile<Frame>, kind: TokenKind) -> Result<Parser, Stop>
     ensures { Gives (λ x. x) result (below_by site frames kind (word_of kind)) }
 {
-    if let Some(Word::If) = word_of(&kind) {
-        let mut frames = frames;
-        return match frames.pop() {
-            Some(Frame::Below(Below::Else { arms })) => {
-                drop(kind);
-                test_due(Part::If { arms, site }, frames)
+    match word_of(&kind) {
+        Some(Word::If) => {
+            let mut frames = frames;
+            match frames.pop() {
+                Some(Frame::Below(Below::Else { arms })) => {
+                    discard_token(kind);
+                    test_due(Part::If { arms, site }, frames)
+                }
+                Some(frame) => inner_below(alloc, site, frame, frames, kind),
+                None => inner(alloc, site, frames, kind),
             }
-            Some(frame) => inner_below(alloc, site, frame, frames, kind),
-            None => inner(alloc, site, frames, kind),
-        };
+        }
+        _ => inner(alloc, site, frames, kind),
     }
-    inner(alloc, site, frames, kind)
 }
 
 /// Names are declared.
@@ -236,12 +234,9 @@ pub fn item(alloc: Global, site: u32, frames: Pile<Frame>, kind: TokenKind) -> R
     ensures { Gives (λ x. x) result (item site frames kind) }
 {
     match kind {
-        TokenKind::CloseBrace => {
-            drop(kind);
-            close_braces(alloc, frames)
-        }
+        TokenKind::CloseBrace => close_braces(alloc, frames),
         TokenKind::Word { word, .. } => {
-            drop(kind);
+            discard_token(kind);
             item_word(alloc, word, site, frames)
         }
         _ => inner(alloc, site, frames, kind),
@@ -249,7 +244,7 @@ pub fn item(alloc: Global, site: u32, frames: Pile<Frame>, kind: TokenKind) -> R
 }
 
 /// A statement more.
-fn with_stmt(body: Items<Stmt>, stmt: Boxed<Stmt>) -> Result<Items<Stmt>, Stop>
+pub fn with_stmt(body: Items<Stmt>, stmt: Boxed<Stmt>) -> Result<Items<Stmt>, Stop>
     ensures { Makes result (body ++ stmt ∷ []) }
 {
     let mut body = body;
@@ -269,7 +264,8 @@ fn listed(
     match with_stmt(body, stmt) {
         Ok(body) => pushed(frames, Frame::List { braces, body }),
         Err(stop) => {
-            drop(braces);
+            discard_braces(braces);
+            discard(frames);
             Err(stop)
         }
     }
@@ -290,14 +286,14 @@ fn next_item(
         Some(Frame::List { braces, body }) => match listed(braces, body, stmt, frames) {
             Ok(frames) => item(alloc, site, frames, kind),
             Err(stop) => {
-                drop(kind);
+                discard_token(kind);
                 Err(stop)
             }
         },
         other => {
-            drop(other);
-            drop(kind);
-            Err(Stop::Syntax)
+            discard_token(kind);
+            drop(stmt);
+            refused_at(other, frames)
         }
     }
 }
@@ -316,7 +312,7 @@ fn next_item_below(
     match pushed(frames, frame) {
         Ok(frames) => next_item(alloc, site, stmt, frames, kind),
         Err(stop) => {
-            drop(kind);
+            discard_token(kind);
             Err(stop)
         }
     }
@@ -328,12 +324,14 @@ fn on_else(stmt: Boxed<Stmt>, frames: Pile<Frame>) -> Result<Parser, Stop>
     let mut frames = frames;
     match frames.pop() {
         Some(Frame::Below(Below::Then { arms, site, test })) => {
-            let arms = with_arm(arms, site, test, stmt)?;
-            below_due(Below::Else { arms }, frames)
+            match with_arm(arms, site, test, stmt) {
+                Ok(arms) => below_due(Below::Else { arms }, frames),
+                Err(stop) => stopped(stop, frames),
+            }
         }
         other => {
-            drop(other);
-            Err(Stop::Syntax)
+            drop(stmt);
+            refused_at(other, frames)
         }
     }
 }
@@ -348,9 +346,11 @@ fn on_while(
     ensures { Gives (λ x. x) result (on_while site stmt frames kind) }
 {
     let mut frames = frames;
-    match frames.pop() {
+    let around = frames.pop();
+    match around {
         Some(Frame::Below(Below::Do { site: begin })) => {
-            drop(kind);
+            discard_frame(around);
+            discard_token(kind);
             test_due(
                 Part::Do {
                     site: begin,
@@ -362,8 +362,9 @@ fn on_while(
         }
         Some(frame) => next_item_below(alloc, site, stmt, frame, frames, kind),
         None => {
-            drop(kind);
-            Err(Stop::Syntax)
+            discard_token(kind);
+            drop(stmt);
+            refused(frames)
         }
     }
 }
@@ -371,8 +372,10 @@ fn on_while(
 fn after_else(alloc: Global, stmt: Boxed<Stmt>, frames: Pile<Frame>) -> Result<Parser, Stop>
     ensures { Gives (λ x. x) result (on_else (settle true stmt frames).value (settle true stmt frames).frames) }
 {
-    let over = settle(alloc, true, stmt, frames)?;
-    on_else(over.value, over.frames)
+    match settle(alloc, true, stmt, frames) {
+        Ok(over) => on_else(over.value, over.frames),
+        Err(stop) => Err(stop),
+    }
 }
 
 fn after_while(
@@ -387,7 +390,7 @@ fn after_while(
     match settle(alloc, false, stmt, frames) {
         Ok(over) => on_while(alloc, site, over.value, over.frames, kind),
         Err(stop) => {
-            drop(kind);
+            discard_token(kind);
             Err(stop)
         }
     }
@@ -405,7 +408,7 @@ fn after_list(
     match settle(alloc, false, stmt, frames) {
         Ok(over) => next_item(alloc, site, over.value, over.frames, kind),
         Err(stop) => {
-            drop(kind);
+            discard_token(kind);
             Err(stop)
         }
     }
@@ -423,7 +426,7 @@ pub fn after(
 {
     match word_of(&kind) {
         Some(Word::Else) => {
-            drop(kind);
+            discard_token(kind);
             after_else(alloc, stmt, frames)
         }
         Some(Word::While) => after_while(alloc, site, stmt, frames, kind),

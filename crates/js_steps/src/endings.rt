@@ -1,16 +1,19 @@
 //! Tokens behind statements that may be over, and between the parts of a `try`.
 
-ghost use Rattle.std.specs.Prelude.{◌≡◌, Some, None};
+ghost use Rattle.std.specs.Prelude.{◌≡◌, Some, None, Err};
 ghost use Rattle.js_ast.specs.declared.statement.Stmt.TheVariants as stmt;
 ghost use Rattle.js_reading.specs.Operands.{word_of};
 ghost use Rattle.js_reading.specs.Statements.{after, do_on, jump_on, return_on, throw_on, ending_on, braces_on, tried_on, catch_head_on, catch_open_on, catch_name_on, caught_by, trying_on};
 ghost use Rattle.js_step_operands.specs.Answers.{Gives};
+ghost use Rattle.js_step_operands.specs.declared.stop.Stop.TheVariants as stop;
 
 use crate::openings::ends_bare;
 use js_ast::{Catch, Identifier, Stmt};
 use js_grammar::{TokenKind, Word};
 use js_reading::{Braces, Ending, Frame, Parser, Part, Pile, Trying};
-use js_step_operands::{Stop, opens_list, word_of};
+use js_step_operands::{
+    Stop, discard_braces, discard_token, opens_list, refused, stopped, word_of,
+};
 use js_step_statements::{after, boxed, braces_due, over, trying, want_part};
 use sqlite_items::{Boxed, Items};
 use std::alloc::Global;
@@ -25,10 +28,7 @@ fn do_on(
     ensures { Gives (λ x. x) result (do_on stmt site frames kind) }
 {
     match kind {
-        TokenKind::Semicolon => {
-            drop(kind);
-            Ok(over(stmt, frames))
-        }
+        TokenKind::Semicolon => Ok(over(stmt, frames)),
         _ => after(alloc, site, stmt, frames, kind),
     }
 }
@@ -45,15 +45,16 @@ fn jump_on(
 {
     match kind {
         TokenKind::Semicolon => {
-            drop(kind);
+            discard_token(kind);
             Ok(over(stmt, frames))
         }
         _ => {
             if ends_bare(line, &kind) {
                 return after(alloc, site, stmt, frames, kind);
             }
-            drop(kind);
-            Err(Stop::Syntax)
+            discard_token(kind);
+            drop(stmt);
+            refused(frames)
         }
     }
 }
@@ -71,8 +72,8 @@ fn after_stmt(
     match boxed(alloc, stmt) {
         Ok(stmt) => after(alloc, site, stmt, frames, kind),
         Err(stop) => {
-            drop(kind);
-            Err(stop)
+            discard_token(kind);
+            stopped(stop, frames)
         }
     }
 }
@@ -96,8 +97,11 @@ fn return_on(
 {
     match kind {
         TokenKind::Semicolon => {
-            drop(kind);
-            Ok(over(boxed(alloc, bare_return(begin))?, frames))
+            discard_token(kind);
+            match boxed(alloc, bare_return(begin)) {
+                Ok(stmt) => Ok(over(stmt, frames)),
+                Err(stop) => stopped(stop, frames),
+            }
         }
         _ => {
             if ends_bare(line, &kind) {
@@ -119,8 +123,8 @@ fn throw_on(
     ensures { Gives (λ x. x) result (throw_on line begin site frames kind) }
 {
     if line {
-        drop(kind);
-        return Err(Stop::Syntax);
+        discard_token(kind);
+        return refused(frames);
     }
     want_part(alloc, Part::Throw { site: begin }, site, frames, kind)
 }
@@ -140,14 +144,8 @@ pub fn ending_on(
         Ending::Over(stmt) => after(alloc, site, stmt, frames, kind),
         Ending::Do(stmt) => do_on(alloc, stmt, site, frames, kind),
         Ending::Jump(stmt) => jump_on(alloc, line, stmt, site, frames, kind),
-        Ending::Return { site: begin } => {
-            drop(ending);
-            return_on(alloc, line, begin, site, frames, kind)
-        }
-        Ending::Throw { site: begin } => {
-            drop(ending);
-            throw_on(alloc, line, begin, site, frames, kind)
-        }
+        Ending::Return { site: begin } => return_on(alloc, line, begin, site, frames, kind),
+        Ending::Throw { site: begin } => throw_on(alloc, line, begin, site, frames, kind),
     }
 }
 
@@ -163,10 +161,18 @@ pub fn braces_on(
     match kind {
         TokenKind::OpenBrace => opens_list(alloc, braces, frames),
         _ => {
-            drop(braces);
-            Err(Stop::Syntax)
+            discard_braces(braces);
+            refused(frames)
         }
     }
+}
+
+/// The token can't stand here, between the parts of a `try`.
+fn refused_try(body: Items<Stmt>, frames: Pile<Frame>) -> Result<Parser, Stop>
+    ensures { result ≡ Err stop.Syntax }
+{
+    drop(body);
+    refused(frames)
 }
 
 fn tried_on(
@@ -187,7 +193,7 @@ fn tried_on(
             },
             frames,
         ),
-        _ => Err(Stop::Syntax),
+        _ => refused_try(body, frames),
     }
 }
 
@@ -213,7 +219,7 @@ fn catch_head_on(
                 frames,
             )
         }
-        _ => Err(Stop::Syntax),
+        _ => refused_try(body, frames),
     }
 }
 
@@ -232,8 +238,8 @@ fn catch_open_on(
             trying(Trying::CatchName { site, body, name }, frames)
         }
         other => {
-            drop(other);
-            Err(Stop::Syntax)
+            discard_token(other);
+            refused_try(body, frames)
         }
     }
 }
@@ -258,7 +264,10 @@ fn catch_name_on(
                 frames,
             )
         }
-        _ => Err(Stop::Syntax),
+        _ => {
+            drop(name);
+            refused_try(body, frames)
+        }
     }
 }
 
@@ -287,7 +296,7 @@ fn caught_on(
 {
     match word_of(&kind) {
         Some(Word::Finally) => {
-            drop(kind);
+            discard_token(kind);
             let catch = Some(catch);
             braces_due(
                 Braces::Finally {
@@ -315,18 +324,18 @@ pub fn trying_on(
     match trying {
         Trying::Tried { site, body } => {
             let parser = tried_on(site, body, frames, &kind);
-            drop(kind);
+            discard_token(kind);
             parser
         }
         Trying::CatchHead { site, body } => {
             let parser = catch_head_on(alloc, site, body, frames, &kind);
-            drop(kind);
+            discard_token(kind);
             parser
         }
         Trying::CatchOpen { site, body } => catch_open_on(site, body, at, frames, kind),
         Trying::CatchName { site, body, name } => {
             let parser = catch_name_on(site, body, name, frames, &kind);
-            drop(kind);
+            discard_token(kind);
             parser
         }
         Trying::Caught { site, body, catch } => {

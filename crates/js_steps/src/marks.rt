@@ -6,7 +6,7 @@ ghost use Rattle.js_step_operands.specs.Answers.{Gives};
 use js_ast::Expr;
 use js_reading::{Frame, Operand, Parser, Pile};
 use js_step_brackets::{close_round_in, comma_in, comma_round, round_of};
-use js_step_operands::{Stop, reached, wrapped};
+use js_step_operands::{Stop, discard_frame, discard_value, reached, refused_at, stopped, wrapped};
 use js_step_operators::whole;
 use js_step_statements::{close_round_part, comma_part};
 use sqlite_items::Boxed;
@@ -20,8 +20,8 @@ fn close_round_of(alloc: Global, value: Boxed<Expr>, frames: Pile<Frame>) -> Res
         Some(Frame::Bracket(bracket)) => close_round_in(alloc, value, bracket, frames),
         Some(Frame::Part(part)) => close_round_part(alloc, value, part, frames),
         other => {
-            drop(other);
-            Err(Stop::Syntax)
+            discard_value(value);
+            refused_at(other, frames)
         }
     }
 }
@@ -37,11 +37,16 @@ pub fn on_close_round(
 {
     if let Some(site) = round_of(&frames) {
         let mut frames = frames;
-        drop(frames.pop());
-        return Ok(reached(site, wrapped(alloc, operand)?, frames));
+        discard_frame(frames.pop());
+        return match wrapped(alloc, operand) {
+            Ok(operand) => Ok(reached(site, operand, frames)),
+            Err(stop) => stopped(stop, frames),
+        };
     }
-    let closed = whole(alloc, start, operand, frames)?;
-    close_round_of(alloc, closed.value, closed.frames)
+    match whole(alloc, start, operand, frames) {
+        Ok(closed) => close_round_of(alloc, closed.value, closed.frames),
+        Err(stop) => Err(stop),
+    }
 }
 
 fn comma_of(alloc: Global, value: Boxed<Expr>, frames: Pile<Frame>) -> Result<Parser, Stop>
@@ -52,8 +57,8 @@ fn comma_of(alloc: Global, value: Boxed<Expr>, frames: Pile<Frame>) -> Result<Pa
         Some(Frame::Bracket(bracket)) => comma_in(alloc, value, bracket, frames),
         Some(Frame::Part(part)) => comma_part(alloc, value, part, frames),
         other => {
-            drop(other);
-            Err(Stop::Syntax)
+            discard_value(value);
+            refused_at(other, frames)
         }
     }
 }
@@ -69,9 +74,11 @@ pub fn on_comma(
 {
     if let Some(site) = round_of(&frames) {
         let mut frames = frames;
-        drop(frames.pop());
+        discard_frame(frames.pop());
         return comma_round(alloc, site, operand, frames);
     }
-    let closed = whole(alloc, start, operand, frames)?;
-    comma_of(alloc, closed.value, closed.frames)
+    match whole(alloc, start, operand, frames) {
+        Ok(closed) => comma_of(alloc, closed.value, closed.frames),
+        Err(stop) => Err(stop),
+    }
 }

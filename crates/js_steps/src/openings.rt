@@ -1,14 +1,17 @@
 //! Tokens behind the beginnings and the ends of statements.
 
-ghost use Rattle.std.specs.Prelude.{◌≡◌};
+ghost use Rattle.std.specs.Prelude.{◌≡◌, Err};
 ghost use Rattle.js_grammar.specs.declared.token.TokenKind.TheVariants as k;
-ghost use Rattle.js_reading.specs.Statements.{test_on, for_on, for_first, for_word, for_head_on, declare_on, named_semicolon, named_comma, goes_of, ends_bare, named_ends, named_on, function_name_on, opening_on};
-ghost use Rattle.js_step_operands.specs.Answers.{Gives, Makes};
+ghost use Rattle.js_reading.specs.Statements.{test_on, for_on, for_word, for_head_on, declare_on, named_semicolon, named_comma, goes_of, ends_bare, named_ends, named_on, function_name_on, opening_on};
+ghost use Rattle.js_step_operands.specs.Answers.{Gives};
+ghost use Rattle.js_step_operands.specs.declared.stop.Stop.TheVariants as stop;
 
 use js_ast::{DeclarationKind, Identifier, LoopHead};
 use js_grammar::{TokenKind, Word};
 use js_reading::{Declaring, Frame, Header, Heading, Mode, Opening, Parser, Part, Pile, Place};
-use js_step_operands::{Stop, heading, is_of, pushed, want_word, wants};
+use js_step_operands::{
+    Stop, discard_part, discard_token, heading, is_of, pushed, refused, stopped, want_word, wants,
+};
 use js_step_statements::{
     after, bare, declaration, declaration_over, declares_more, is_let, is_statement, opening,
     want_part,
@@ -24,7 +27,7 @@ fn test_on(frames: Pile<Frame>, kind: &TokenKind) -> Result<Parser, Stop>
             mode: Mode::Want,
             frames,
         }),
-        _ => Err(Stop::Syntax),
+        _ => refused(frames),
     }
 }
 
@@ -33,14 +36,8 @@ fn for_on(site: u32, frames: Pile<Frame>, kind: &TokenKind) -> Result<Parser, St
 {
     match kind {
         TokenKind::OpenRound => opening(Opening::ForHead { site }, frames),
-        _ => Err(Stop::Syntax),
+        _ => refused(frames),
     }
-}
-
-fn for_first(site: u32, frames: Pile<Frame>) -> Result<Pile<Frame>, Stop>
-    ensures { Makes result (for_first site frames) }
-{
-    pushed(frames, Frame::Part(Part::ForFirst { site }))
 }
 
 fn for_word(
@@ -55,7 +52,10 @@ fn for_word(
     match word {
         Word::Let => declaration(alloc, Place::Loop, site, DeclarationKind::Let, frames),
         Word::Const => declaration(alloc, Place::Loop, site, DeclarationKind::Const, frames),
-        word => want_word(alloc, word, at, for_first(site, frames)?),
+        word => match pushed(frames, Frame::Part(Part::ForFirst { site })) {
+            Ok(frames) => want_word(alloc, word, at, frames),
+            Err(stop) => Err(stop),
+        },
     }
 }
 
@@ -71,12 +71,11 @@ fn for_head_on(
 {
     match kind {
         TokenKind::Semicolon => {
-            drop(kind);
             let head = LoopHead::Nothing;
             wants(Frame::Part(Part::ForTest { site, head }), frames)
         }
         TokenKind::Word { word, .. } => {
-            drop(kind);
+            discard_token(kind);
             for_word(alloc, word, site, at, frames)
         }
         _ => want_part(alloc, Part::ForFirst { site }, at, frames, kind),
@@ -94,16 +93,31 @@ fn declare_on(
     match kind {
         TokenKind::Name(name) => {
             if !is_statement(declaring.place) && is_of(&name) {
-                return Err(Stop::Syntax);
+                drop(name);
+                drop(declaring);
+                return refused(frames);
             }
             let name = Identifier { site: at, name };
             opening(Opening::Named { declaring, name }, frames)
         }
         other => {
-            drop(other);
-            Err(Stop::Syntax)
+            discard_token(other);
+            drop(declaring);
+            refused(frames)
         }
     }
+}
+
+/// The token can't stand here, behind a declared name.
+fn refused_named(
+    declaring: Declaring,
+    name: Identifier,
+    frames: Pile<Frame>,
+) -> Result<Parser, Stop>
+    ensures { result ≡ Err stop.Syntax }
+{
+    discard_part(Part::Declare { declaring, name });
+    refused(frames)
 }
 
 fn named_semicolon(
@@ -117,7 +131,7 @@ fn named_semicolon(
     if is_let(declaring.kind) {
         return declaration_over(alloc, declaring, name, None, frames);
     }
-    Err(Stop::Syntax)
+    refused_named(declaring, name, frames)
 }
 
 fn named_comma(declaring: Declaring, name: Identifier, frames: Pile<Frame>) -> Result<Parser, Stop>
@@ -126,7 +140,7 @@ fn named_comma(declaring: Declaring, name: Identifier, frames: Pile<Frame>) -> R
     if is_let(declaring.kind) {
         return declares_more(declaring, name, None, frames);
     }
-    Err(Stop::Syntax)
+    refused_named(declaring, name, frames)
 }
 
 /// Whether a name goes on as a `for` over items.
@@ -161,13 +175,13 @@ fn named_ends(
         return match bare(alloc, declaring, name) {
             Ok(stmt) => after(alloc, site, stmt, frames, kind),
             Err(stop) => {
-                drop(kind);
-                Err(stop)
+                discard_token(kind);
+                stopped(stop, frames)
             }
         };
     }
-    drop(kind);
-    Err(Stop::Syntax)
+    discard_token(kind);
+    refused_named(declaring, name, frames)
 }
 
 /// A name behind a declared name.
@@ -183,11 +197,14 @@ fn named_word(
     ensures { Gives (λ x. x) result (named_on line declaring name site frames (k.Name word)) }
 {
     if goes_of(&declaring, &word) {
+        drop(word);
         let Declaring {
             site: begin,
             kind,
+            declarators,
             ..
         } = declaring;
+        drop(declarators);
         return wants(
             Frame::Part(Part::ForOf {
                 site: begin,
@@ -214,18 +231,9 @@ fn named_on(
     ensures { Gives (λ x. x) result (named_on line declaring name site frames kind) }
 {
     match kind {
-        TokenKind::Assign(None) => {
-            drop(kind);
-            wants(Frame::Part(Part::Declare { declaring, name }), frames)
-        }
-        TokenKind::Comma => {
-            drop(kind);
-            named_comma(declaring, name, frames)
-        }
-        TokenKind::Semicolon => {
-            drop(kind);
-            named_semicolon(alloc, declaring, name, frames)
-        }
+        TokenKind::Assign(None) => wants(Frame::Part(Part::Declare { declaring, name }), frames),
+        TokenKind::Comma => named_comma(declaring, name, frames),
+        TokenKind::Semicolon => named_semicolon(alloc, declaring, name, frames),
         TokenKind::Name(word) => named_word(alloc, line, declaring, name, site, frames, word),
         kind => named_ends(alloc, line, declaring, name, site, frames, kind),
     }
@@ -245,8 +253,8 @@ fn function_name_on(
             heading(Heading::Open(Header::Function { site, name }), frames)
         }
         other => {
-            drop(other);
-            Err(Stop::Syntax)
+            discard_token(other);
+            refused(frames)
         }
     }
 }
@@ -264,28 +272,20 @@ pub fn opening_on(
 {
     match opening {
         Opening::Test => {
-            drop(opening);
             let parser = test_on(frames, &kind);
-            drop(kind);
+            discard_token(kind);
             parser
         }
         Opening::For { site } => {
-            drop(opening);
             let parser = for_on(site, frames, &kind);
-            drop(kind);
+            discard_token(kind);
             parser
         }
-        Opening::ForHead { site } => {
-            drop(opening);
-            for_head_on(alloc, site, at, frames, kind)
-        }
+        Opening::ForHead { site } => for_head_on(alloc, site, at, frames, kind),
         Opening::Declare(declaring) => declare_on(declaring, at, frames, kind),
         Opening::Named { declaring, name } => {
             named_on(alloc, line, declaring, name, at, frames, kind)
         }
-        Opening::Function { site } => {
-            drop(opening);
-            function_name_on(site, at, frames, kind)
-        }
+        Opening::Function { site } => function_name_on(site, at, frames, kind),
     }
 }
