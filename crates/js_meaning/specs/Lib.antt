@@ -4,3 +4,11 @@ pub mod Running
 pub mod Conversions
 pub mod Builtins
 pub mod Objects
+pub mod Operators
+pub mod Names
+pub mod Parts
+pub mod Blocks
+pub mod Loops
+pub mod Nodes
+pub mod Meaning
+pub mod Path

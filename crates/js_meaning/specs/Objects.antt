@@ -193,9 +193,6 @@ bracket_row site is_static (method at base k) key objects = ending at why.Builti
 abbrev pub Written : Type 0
 Written = Result (List Object) Answer
 
-abbrev pub refused : ℕ → Answer → Written
-refused site a = Err a
-
 abbrev pub set_leaves : ℕ → Written
 set_leaves site = Err (ends (leaving site why.Set))
 

@@ -1,5 +1,5 @@
 -- What a run is made of: the items that it shows on its way, the place that it has come to, and how a part ended.
-use Rattle.std.specs.Prelude.{ℕ, zero, suc, ◌+◌, ◌-◌, Bool, true, false, nat_lt, length, if◌then◌else◌, List, [], ◌∷◌, ◌++◌, Option, Some, None}
+use Rattle.std.specs.Prelude.{ℕ, zero, suc, ◌+◌, ◌-◌, Bool, true, false, nat_lt, length, if◌then◌else◌, List, [], ◌∷◌, ◌++◌, Option, Some, None, slice_get}
 use Rattle.path_core.specs.declared.path.Event.{Event}
 use Rattle.path_core.specs.declared.path.Event.TheVariants as event
 use Rattle.path_core.specs.declared.path.ErrorName.{ErrorName}
@@ -8,6 +8,8 @@ use Rattle.path_core.specs.declared.path.Why.{Why}
 use Rattle.path_core.specs.declared.path.Why.TheVariants as why
 use Rattle.path_core.specs.declared.path.End.{End}
 use Rattle.path_core.specs.declared.path.End.TheVariants.{Done, Threw, Left, Cut}
+use Rattle.re_ast.specs.declared.patterns.Pattern.{Pattern}
+use Rattle.re_ast.specs.Execution.{Match, exec}
 use Rattle.js_meaning.specs.Values.{Text, Value, object, undefined, Class, error, Object, Place}
 
 -- ---- items, answers and completions
@@ -128,11 +130,11 @@ turn site st go = turn_of st.turns site st go
 abbrev pub with_object : Object → Place → Place
 with_object o st = record st { objects = st.objects ++ o ∷ [] }
 
--- a new object of a class, with nothing in it
-unfoldable pub new_object : ℕ → Class → Place → (Value → Place → Outcome) → Outcome
+-- a new object of a class, with nothing in it, and its number
+unfoldable pub new_object : ℕ → Class → Place → (ℕ → Place → Outcome) → Outcome
 new_object site class st go =
     if nat_lt (length st.objects) object_limit
-    then go (object (length st.objects)) (with_object (record { class = class; properties = []; items = [] }) st)
+    then go (length st.objects) (with_object (record { class = class; properties = []; items = [] }) st)
     else leaves site why.Size st
 
 -- ThrowCompletion (6.2.4.2)
@@ -141,7 +143,18 @@ throw site value st = done st (throws site value)
 
 -- the engine throws an error (5.2.3.2), which is an object like any other
 abbrev pub throw_error : ℕ → ErrorName → Place → Outcome
-throw_error site name st = new_object site (error name true) st (throw site)
+throw_error site name st = new_object site (error name true) st (λ o. throw site (object o))
+
+-- ---- single execs of patterns (22.2.7.2, RegExpBuiltinExec)
+
+abbrev pub answered : Option (Option (Option Match)) → Option Match → Option Match
+answered (Some (Some m)) standard = m
+answered (Some None) standard = standard
+answered None standard = standard
+
+-- the next exec of a run, of a pattern on a text from a place on: by the answer that stands for it, else by the standard
+abbrev pub next_exec : Place → Pattern → Text → ℕ → Option Match
+next_exec st p t from = answered (slice_get st.run.answers st.execs) (exec p t from)
 
 -- ---- rows are played
 

@@ -62,12 +62,16 @@ pub record Object : Type 0 where
   pub properties : List (Text × Value)
   pub items : List Value
 
--- what a run is given: the inputs' names, each with its value, the turns that it may take, and answers for its single
--- execs of patterns, the first exec's first: a match or none; where no answer stands, the standard's is taken
+-- answers for the single execs of patterns, the first exec's first: each entry holds one, which is a match or none, or holds no
+-- answer; there, and where the list has ended, the standard's match is taken
+abbrev pub Answers : Type 0
+Answers = List (Option (Option Match))
+
+-- what a run is given: the inputs' names, each with its value, the turns that it may take, and answers for its single execs
 pub record Given : Type 0 where
   pub inputs : List (Text × Value)
   pub turns : ℕ
-  pub answers : List (Option (Option Match))
+  pub answers : Answers
 
 -- where a run has come to: its bindings and objects, each numbered from 0; the events made, the turns left, the
 -- activations of functions that have ended since the last turn was taken, the nodes used, the joins of strings and the
