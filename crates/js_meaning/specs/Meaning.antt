@@ -200,7 +200,7 @@ returned st (throws site x) = done (end_activation st) (throws site x)
 returned st _ = done (end_activation st) (given undefined)
 
 -- FunctionBody and ConciseBody (15.2.3, 15.3.3)
-abbrev pub body_of : Body → Meaning
+unfoldable pub body_of : Body → Meaning
 body_of (statements ss) calls k scope st = block ss (stmts ss) calls k scope st
 body_of (expression e) calls k scope st = bind (expr e calls k scope st) (on_value (λ x st. done st (returns x)))
 
