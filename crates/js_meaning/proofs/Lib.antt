@@ -8,3 +8,4 @@ pub mod Statements
 pub mod Throws
 pub mod Leaving
 pub mod Expressions
+pub mod Calls

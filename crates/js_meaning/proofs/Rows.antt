@@ -143,3 +143,21 @@ twice_of_least : goes 2 (whole (codes "n") (negsuc 9007199254740990) (negsuc 900
 twice_of_least = path_is 2 (whole (codes "n") (negsuc 9007199254740990) (negsuc 9007199254740988) ∷ []) (input.Int
     (negsuc 9007199254740990) ∷ []) (twice_of_least_script twice_of_least_value_1.tree) (twice_of_least_run
     twice_of_least_value_1.tree (value_known twice_of_least_value_1))
+
+-- let f = x => x; f(1) + 9007199254740991;
+abbrev behind_a_return_value_1 : Known
+behind_a_return_value_1 = leaf (Expr-F.Name (named 13 (codes "x")))
+
+abbrev behind_a_return_script : Expr → List KnownStmt
+behind_a_return_script t1 = (declare_ 0 Let ((named 4 (codes "f"), (Some (leaf (Expr-F.Arrow 8 ((named 8 (codes "x"))
+    ∷ []) t1)))) ∷ []) ∷ express 16 (binary (call (leaf (Expr-F.Name (named 16 (codes "f")))) (call_ 17 (leaf
+    (Expr-F.Number 18 1) ∷ []) ∷ [])) (link 21 op.Add (leaf (Expr-F.Number 23 9007199254740991)) ∷ [])) ∷ [])
+
+behind_a_return_run : (t1 : Expr) → body_of (expression t1) ≡ known_value behind_a_return_value_1 → runs 1 [] []
+    (behind_a_return_script t1) ≡ ([], Left 21 why.Range 1 1)
+unfolding count turn new_object call_builtin construct get_row bracket_row set_row test_row logical_row binary_row unary_row step_row open_cell init_name find_name digits
+behind_a_return_run t1 p1 = rw p1 refl
+
+behind_a_return : goes 1 [] [] (behind_a_return_script behind_a_return_value_1.tree) ≡ ([], Left 21 why.Range 1 1)
+behind_a_return = path_is 1 [] [] (behind_a_return_script behind_a_return_value_1.tree) (behind_a_return_run
+    behind_a_return_value_1.tree (value_known behind_a_return_value_1))
