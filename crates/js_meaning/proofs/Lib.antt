@@ -1,3 +1,4 @@
+pub mod RowsApart
 pub mod Opens
 pub mod Known
 pub mod KnownStatements

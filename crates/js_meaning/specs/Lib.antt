@@ -12,3 +12,4 @@ pub mod Loops
 pub mod Nodes
 pub mod Meaning
 pub mod Path
+pub mod Apart

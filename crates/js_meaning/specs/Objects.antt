@@ -146,12 +146,12 @@ get_row site nan key objects = other site nan key
 get_row site (text t) key objects = if bytes_eq key (codes "length") then holds (text t) (int (pos (length t))) else other site (text t) key
 get_row site (object o) key objects = get_own site o key (object_at objects o)
 
--- behind `.`, of what stands before it; of a built-in name only a listed property, and of a method none
+-- behind `.`, of what stands before it; of a built-in name only a listed property. A method that isn't called has left the
+-- profile before
 abbrev pub property_row : ℕ → Reference → Text → List Object → Row
 property_row site (callee x this) key objects = get_row site x key objects
 property_row site (intrinsic at name) key objects = if is_static name key then ([], comes_to (static site name key)) else ending site why.Builtin
-property_row site (static at name k) key objects = ending at why.Builtin
-property_row site (method at base k) key objects = ending at why.Builtin
+property_row site _ key objects = ending site why.Builtin
 
 -- ---- properties in brackets: they leave the profile so far, but for the methods and listed properties of the table
 
@@ -184,8 +184,7 @@ bracket_static site name (Some key) = if is_static name key then ([], comes_to (
 unfoldable pub bracket_row : ℕ → Bool → Reference → Value → List Object → Row
 bracket_row site is_static (callee x this) key objects = bracket_method site x (static_key is_static key) objects
 bracket_row site is_static (intrinsic at name) key objects = bracket_static site name (static_key is_static key)
-bracket_row site is_static (static at name k) key objects = ending at why.Builtin
-bracket_row site is_static (method at base k) key objects = ending at why.Builtin
+bracket_row site is_static _ key objects = ending site why.Builtin
 
 -- ---- writing (7.3.4, Set)
 
