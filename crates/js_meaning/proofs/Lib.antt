@@ -10,3 +10,4 @@ pub mod Throws
 pub mod Leaving
 pub mod Expressions
 pub mod Calls
+pub mod Limits
