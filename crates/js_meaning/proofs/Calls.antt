@@ -17,7 +17,7 @@ use Rattle.js_meaning.specs.Running.{passed, refers, callee, Outcome, bind, coun
 use Rattle.js_meaning.specs.Builtins.{call_builtin, construct}
 use Rattle.js_meaning.specs.Objects.{get_row, bracket_row, set_row}
 use Rattle.js_meaning.specs.Operators.{test_row, logical_row, binary_row, unary_row, step_row}
-use Rattle.js_meaning.specs.Names.{open_cell, init_name, find_name}
+use Rattle.js_meaning.specs.Names.{open_cell, init_name, find_name, read_name, put_name}
 use Rattle.js_meaning.specs.Parts.{gather, chain, invoke}
 use Rattle.js_meaning.specs.Blocks.{arrow_code, declare, run_all}
 use Rattle.js_meaning.specs.Meaning.{meaning_of, body_of, calls_in}
@@ -76,29 +76,29 @@ abbrev Opens : Expr → Type 0
 Opens t = body_of (expression t) ≡ known_value minus_one
 
 once_next : (t : Expr) → Opens t → once.does (calls_in 3) 2 inner_scope (between t (negsuc 9007199254740989) [] 2 0 5) ≡ once_gives t (negsuc 9007199254740989) (negsuc 9007199254740990)
-unfolding count turn new_object call_builtin construct get_row bracket_row set_row test_row logical_row binary_row unary_row step_row open_cell init_name find_name digits
+unfolding count turn new_object call_builtin construct get_row bracket_row set_row test_row logical_row binary_row unary_row step_row open_cell init_name find_name read_name put_name digits
 once_next t p = rw p refl
 
 
 once_third : (t : Expr) → Opens t → once.does (calls_in 3) 2 inner_scope (between t (negsuc 9007199254740988) [] 2 0 5) ≡ once_gives t (negsuc 9007199254740988) (negsuc 9007199254740989)
-unfolding count turn new_object call_builtin construct get_row bracket_row set_row test_row logical_row binary_row unary_row step_row open_cell init_name find_name digits
+unfolding count turn new_object call_builtin construct get_row bracket_row set_row test_row logical_row binary_row unary_row step_row open_cell init_name find_name read_name put_name digits
 once_third t p = rw p refl
 
 -- the run up to f(n), and what comes behind it
 runs_next : (t : Expr) → runs 2 bounds_n (input.Int (negsuc 9007199254740989) ∷ []) (twice t) ≡ behind_once (once.does (calls_in 3) 2 inner_scope (between t (negsuc 9007199254740989) [] 2 0 5))
-unfolding count turn new_object call_builtin construct get_row bracket_row set_row test_row logical_row binary_row unary_row step_row open_cell init_name find_name digits
+unfolding count turn new_object call_builtin construct get_row bracket_row set_row test_row logical_row binary_row unary_row step_row open_cell init_name find_name read_name put_name digits
 runs_next t = refl
 
 behind_next : (t : Expr) → Opens t → behind_once (once_gives t (negsuc 9007199254740989) (negsuc 9007199254740990)) ≡ ([], Left 15 why.Range 2 0)
-unfolding count turn new_object call_builtin construct get_row bracket_row set_row test_row logical_row binary_row unary_row step_row open_cell init_name find_name digits
+unfolding count turn new_object call_builtin construct get_row bracket_row set_row test_row logical_row binary_row unary_row step_row open_cell init_name find_name read_name put_name digits
 behind_next t p = rw p refl
 
 behind_third : (t : Expr) → Opens t → behind_once (once_gives t (negsuc 9007199254740988) (negsuc 9007199254740989)) ≡ ([], Done)
-unfolding count turn new_object call_builtin construct get_row bracket_row set_row test_row logical_row binary_row unary_row step_row open_cell init_name find_name digits
+unfolding count turn new_object call_builtin construct get_row bracket_row set_row test_row logical_row binary_row unary_row step_row open_cell init_name find_name read_name put_name digits
 behind_third t p = rw p refl
 
 runs_third : (t : Expr) → runs 2 bounds_n (input.Int (negsuc 9007199254740988) ∷ []) (twice t) ≡ behind_once (once.does (calls_in 3) 2 inner_scope (between t (negsuc 9007199254740988) [] 2 0 5))
-unfolding count turn new_object call_builtin construct get_row bracket_row set_row test_row logical_row binary_row unary_row step_row open_cell init_name find_name digits
+unfolding count turn new_object call_builtin construct get_row bracket_row set_row test_row logical_row binary_row unary_row step_row open_cell init_name find_name read_name put_name digits
 runs_third t = refl
 
 twice_next : goes 2 bounds_n (input.Int (negsuc 9007199254740989) ∷ []) (twice minus_one.tree) ≡ ([], Left 15 why.Range 2 0)

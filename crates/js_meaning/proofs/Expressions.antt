@@ -18,7 +18,7 @@ use Rattle.js_meaning.specs.Running.{count, turn, new_object}
 use Rattle.js_meaning.specs.Builtins.{call_builtin, construct}
 use Rattle.js_meaning.specs.Objects.{get_row, bracket_row, set_row}
 use Rattle.js_meaning.specs.Operators.{test_row, logical_row, binary_row, unary_row, step_row}
-use Rattle.js_meaning.specs.Names.{open_cell, init_name, find_name}
+use Rattle.js_meaning.specs.Names.{open_cell, init_name, find_name, read_name, put_name}
 use Rattle.js_meaning.proofs.Known.{Known, named, leaf, array, new_, unary, conditional, link, binary, logical, valued, short, object, dot, bracket, get, call_, call, to_name, to_property, step, assign}
 use Rattle.js_meaning.proofs.KnownStatements.{KnownStmt, stmt_trees, known_block, known_value, body_known, value_known, function_, arrow_block, still, braces, express, throw_, return_, declare_}
 use Rattle.js_meaning.proofs.KnownForms.{when, if_, if_else, while_, do_, for_of_, no_head, value_head, declare_head, for_, try_}
@@ -34,11 +34,11 @@ chain_of_and_script = (express 0 (logical (leaf (Expr-F.Number 0 0)) (link 2 log
     link 7 logic.And (leaf (Expr-F.Number 10 2)) ∷ [])) ∷ [])
 
 chain_of_and : goes 10 [] [] chain_of_and_script ≡ ((branched 2 0 ∷ branched 7 0 ∷ []), Done)
-unfolding count turn new_object call_builtin construct get_row bracket_row set_row test_row logical_row binary_row unary_row step_row open_cell init_name find_name digits
+unfolding count turn new_object call_builtin construct get_row bracket_row set_row test_row logical_row binary_row unary_row step_row open_cell init_name find_name read_name put_name digits
 chain_of_and = path_is 10 [] [] chain_of_and_script refl
 
 chain_of_and_steps : uses 10 [] [] chain_of_and_script ≡ 4
-unfolding count turn new_object call_builtin construct get_row bracket_row set_row test_row logical_row binary_row unary_row step_row open_cell init_name find_name digits
+unfolding count turn new_object call_builtin construct get_row bracket_row set_row test_row logical_row binary_row unary_row step_row open_cell init_name find_name read_name put_name digits
 chain_of_and_steps = steps_are 10 [] [] chain_of_and_script refl
 
 -- 0 || 2 || foo;
@@ -47,7 +47,7 @@ chain_of_or_script = (express 0 (logical (leaf (Expr-F.Number 0 0)) (link 2 logi
     7 logic.Or (leaf (Expr-F.Name (named 10 (codes "foo")))) ∷ [])) ∷ [])
 
 chain_of_or : goes 10 [] [] chain_of_or_script ≡ ((branched 2 0 ∷ branched 7 1 ∷ []), Done)
-unfolding count turn new_object call_builtin construct get_row bracket_row set_row test_row logical_row binary_row unary_row step_row open_cell init_name find_name digits
+unfolding count turn new_object call_builtin construct get_row bracket_row set_row test_row logical_row binary_row unary_row step_row open_cell init_name find_name read_name put_name digits
 chain_of_or = path_is 10 [] [] chain_of_or_script refl
 
 -- null ?? 0 ?? foo;
@@ -56,7 +56,7 @@ coalesce_script = (express 0 (logical (leaf (Expr-F.Null 0)) (link 5 logic.Coale
     10 logic.Coalesce (leaf (Expr-F.Name (named 13 (codes "foo")))) ∷ [])) ∷ [])
 
 coalesce : goes 10 [] [] coalesce_script ≡ ((branched 5 1 ∷ branched 10 0 ∷ []), Done)
-unfolding count turn new_object call_builtin construct get_row bracket_row set_row test_row logical_row binary_row unary_row step_row open_cell init_name find_name digits
+unfolding count turn new_object call_builtin construct get_row bracket_row set_row test_row logical_row binary_row unary_row step_row open_cell init_name find_name read_name put_name digits
 coalesce = path_is 10 [] [] coalesce_script refl
 
 -- if ((n ? 5 : 6) === 6) {}
@@ -67,7 +67,7 @@ chosen_value_script = (if_ (when 0 (binary (conditional 5 7 (leaf (Expr-F.Name (
 
 chosen_value : goes 10 (whole (codes "n") (pos 0) (pos 3) ∷ []) (input.Int (pos 0) ∷ []) chosen_value_script ≡
     ((branched 7 0 ∷ branched 0 1 ∷ []), Done)
-unfolding count turn new_object call_builtin construct get_row bracket_row set_row test_row logical_row binary_row unary_row step_row open_cell init_name find_name digits
+unfolding count turn new_object call_builtin construct get_row bracket_row set_row test_row logical_row binary_row unary_row step_row open_cell init_name find_name read_name put_name digits
 chosen_value = path_is 10 (whole (codes "n") (pos 0) (pos 3) ∷ []) (input.Int (pos 0) ∷ []) chosen_value_script refl
 
 -- if (typeof null === "object") {} if (typeof (() => 1) === "function") {} if (typeof NaN === "number") {}
@@ -82,7 +82,7 @@ types_script t1 = (if_ (when 0 (binary (unary 4 un.TypeOf (leaf (Expr-F.Null 11)
     (Expr-F.Text 92 (codes "number"))) ∷ [])) (braces 102 []) ∷ []) ∷ [])
 
 types : goes 10 [] [] (types_script types_value_1.tree) ≡ ((branched 0 1 ∷ branched 33 1 ∷ branched 73 1 ∷ []), Done)
-unfolding count turn new_object call_builtin construct get_row bracket_row set_row test_row logical_row binary_row unary_row step_row open_cell init_name find_name digits
+unfolding count turn new_object call_builtin construct get_row bracket_row set_row test_row logical_row binary_row unary_row step_row open_cell init_name find_name read_name put_name digits
 types = path_is 10 [] [] (types_script types_value_1.tree) refl
 
 -- if (-7 % 3 === -1) {} if (7 % -3 === 1) {} if (7 % 0 === 7 % 0) {}
@@ -96,7 +96,7 @@ remainders_script = (if_ (when 0 (binary (binary (unary 4 un.Minus (leaf (Expr-F
     [])) (braces 64 []) ∷ []) ∷ [])
 
 remainders : goes 10 [] [] remainders_script ≡ ((branched 0 1 ∷ branched 22 1 ∷ branched 43 0 ∷ []), Done)
-unfolding count turn new_object call_builtin construct get_row bracket_row set_row test_row logical_row binary_row unary_row step_row open_cell init_name find_name digits
+unfolding count turn new_object call_builtin construct get_row bracket_row set_row test_row logical_row binary_row unary_row step_row open_cell init_name find_name read_name put_name digits
 remainders = path_is 10 [] [] remainders_script refl
 
 -- if (-6 / 3 === -2) {} if (NaN / 0 === 1) {}
@@ -107,8 +107,22 @@ quotients_script = (if_ (when 0 (binary (binary (unary 4 un.Minus (leaf (Expr-F.
     (Expr-F.Number 32 0)) ∷ [])) (link 34 op.Equal (leaf (Expr-F.Number 38 1)) ∷ [])) (braces 41 []) ∷ []) ∷ [])
 
 quotients : goes 10 [] [] quotients_script ≡ ((branched 0 1 ∷ branched 22 0 ∷ []), Done)
-unfolding count turn new_object call_builtin construct get_row bracket_row set_row test_row logical_row binary_row unary_row step_row open_cell init_name find_name digits
+unfolding count turn new_object call_builtin construct get_row bracket_row set_row test_row logical_row binary_row unary_row step_row open_cell init_name find_name read_name put_name digits
 quotients = path_is 10 [] [] quotients_script refl
+
+-- if (-4 % 2 === 0) {} if (0 * -5 === 0) {} if (-0 === 0) {} if (0 / -5 === 0) {}
+abbrev zeros_script : List KnownStmt
+zeros_script = (if_ (when 0 (binary (binary (unary 4 un.Minus (leaf (Expr-F.Number 5 4))) (link 7 op.Remainder (leaf
+    (Expr-F.Number 9 2)) ∷ [])) (link 11 op.Equal (leaf (Expr-F.Number 15 0)) ∷ [])) (braces 18 []) ∷ []) ∷ if_ (when
+    21 (binary (binary (leaf (Expr-F.Number 25 0)) (link 27 op.Multiply (unary 29 un.Minus (leaf (Expr-F.Number 30
+    5))) ∷ [])) (link 32 op.Equal (leaf (Expr-F.Number 36 0)) ∷ [])) (braces 39 []) ∷ []) ∷ if_ (when 42 (binary
+    (unary 46 un.Minus (leaf (Expr-F.Number 47 0))) (link 49 op.Equal (leaf (Expr-F.Number 53 0)) ∷ [])) (braces 56
+    []) ∷ []) ∷ if_ (when 59 (binary (binary (leaf (Expr-F.Number 63 0)) (link 65 op.Divide (unary 67 un.Minus (leaf
+    (Expr-F.Number 68 5))) ∷ [])) (link 70 op.Equal (leaf (Expr-F.Number 74 0)) ∷ [])) (braces 77 []) ∷ []) ∷ [])
+
+zeros : goes 10 [] [] zeros_script ≡ ((branched 0 1 ∷ branched 21 1 ∷ branched 42 1 ∷ branched 59 1 ∷ []), Done)
+unfolding count turn new_object call_builtin construct get_row bracket_row set_row test_row logical_row binary_row unary_row step_row open_cell init_name find_name read_name put_name digits
+zeros = path_is 10 [] [] zeros_script refl
 
 -- if ((7 & -4) === 4) {} if ((5 ^ -1) === -6) {} if ((NaN | 3) === 3) {} if (~5 === -6) {}
 abbrev bits_script : List KnownStmt
@@ -122,7 +136,7 @@ bits_script = (if_ (when 0 (binary (binary (leaf (Expr-F.Number 5 7)) (link 7 op
     [])) (braces 86 []) ∷ []) ∷ [])
 
 bits : goes 10 [] [] bits_script ≡ ((branched 0 1 ∷ branched 23 1 ∷ branched 47 1 ∷ branched 71 1 ∷ []), Done)
-unfolding count turn new_object call_builtin construct get_row bracket_row set_row test_row logical_row binary_row unary_row step_row open_cell init_name find_name digits
+unfolding count turn new_object call_builtin construct get_row bracket_row set_row test_row logical_row binary_row unary_row step_row open_cell init_name find_name read_name put_name digits
 bits = path_is 10 [] [] bits_script refl
 
 -- if (1 << 33 === 2) {} if (1 << 31 === -2147483648) {} if (-5 >> 1 === -3) {} if (-1 >>> 28 === 15) {}
@@ -137,7 +151,7 @@ shifts_script = (if_ (when 0 (binary (binary (leaf (Expr-F.Number 4 1)) (link 6 
     28)) ∷ [])) (link 91 op.Equal (leaf (Expr-F.Number 95 15)) ∷ [])) (braces 99 []) ∷ []) ∷ [])
 
 shifts : goes 10 [] [] shifts_script ≡ ((branched 0 1 ∷ branched 22 1 ∷ branched 54 1 ∷ branched 77 1 ∷ []), Done)
-unfolding count turn new_object call_builtin construct get_row bracket_row set_row test_row logical_row binary_row unary_row step_row open_cell init_name find_name digits
+unfolding count turn new_object call_builtin construct get_row bracket_row set_row test_row logical_row binary_row unary_row step_row open_cell init_name find_name read_name put_name digits
 shifts = path_is 10 [] [] shifts_script refl
 
 -- if ("ab" < "b") {} if ("a" >= "ab") {} if (NaN <= NaN) {} if (null <= 0) {}
@@ -150,7 +164,7 @@ orders_script = (if_ (when 0 (binary (leaf (Expr-F.Text 4 (codes "ab"))) (link 9
     0)) ∷ [])) (braces 73 []) ∷ []) ∷ [])
 
 orders : goes 10 [] [] orders_script ≡ ((branched 0 1 ∷ branched 19 0 ∷ branched 39 0 ∷ branched 58 1 ∷ []), Done)
-unfolding count turn new_object call_builtin construct get_row bracket_row set_row test_row logical_row binary_row unary_row step_row open_cell init_name find_name digits
+unfolding count turn new_object call_builtin construct get_row bracket_row set_row test_row logical_row binary_row unary_row step_row open_cell init_name find_name read_name put_name digits
 orders = path_is 10 [] [] orders_script refl
 
 -- if (NaN === NaN) {} if (null === undefined) {} if ("a" === "a") {} if ([] !== []) {}
@@ -162,7 +176,7 @@ equals_script = (if_ (when 0 (binary (leaf (Expr-F.Name (named 4 (codes "NaN")))
     []) ∷ if_ (when 67 (binary (array 71 []) (link 74 op.NotEqual (array 78 []) ∷ [])) (braces 82 []) ∷ []) ∷ [])
 
 equals : goes 10 [] [] equals_script ≡ ((branched 0 0 ∷ branched 20 0 ∷ branched 47 1 ∷ branched 67 1 ∷ []), Done)
-unfolding count turn new_object call_builtin construct get_row bracket_row set_row test_row logical_row binary_row unary_row step_row open_cell init_name find_name digits
+unfolding count turn new_object call_builtin construct get_row bracket_row set_row test_row logical_row binary_row unary_row step_row open_cell init_name find_name read_name put_name digits
 equals = path_is 10 [] [] equals_script refl
 
 -- if ("a" + -12 + null + true === "a-12nulltrue") {}
@@ -172,7 +186,7 @@ texts_script = (if_ (when 0 (binary (binary (leaf (Expr-F.Text 4 (codes "a"))) (
     (link 28 op.Equal (leaf (Expr-F.Text 32 (codes "a-12nulltrue"))) ∷ [])) (braces 48 []) ∷ []) ∷ [])
 
 texts : goes 10 [] [] texts_script ≡ ((branched 0 1 ∷ []), Done)
-unfolding count turn new_object call_builtin construct get_row bracket_row set_row test_row logical_row binary_row unary_row step_row open_cell init_name find_name digits
+unfolding count turn new_object call_builtin construct get_row bracket_row set_row test_row logical_row binary_row unary_row step_row open_cell init_name find_name read_name put_name digits
 texts = path_is 10 [] [] texts_script refl
 
 -- let x = 1; if (x++ === 1) {} if (x === 2) {} if (--x === 1) {}
@@ -184,7 +198,7 @@ stepped_behind_script = (declare_ 0 Let ((named 4 (codes "x"), (Some (leaf (Expr
     (to_name (named 51 (codes "x")))) (link 53 op.Equal (leaf (Expr-F.Number 57 1)) ∷ [])) (braces 60 []) ∷ []) ∷ [])
 
 stepped_behind : goes 10 [] [] stepped_behind_script ≡ ((branched 11 1 ∷ branched 29 1 ∷ branched 45 1 ∷ []), Done)
-unfolding count turn new_object call_builtin construct get_row bracket_row set_row test_row logical_row binary_row unary_row step_row open_cell init_name find_name digits
+unfolding count turn new_object call_builtin construct get_row bracket_row set_row test_row logical_row binary_row unary_row step_row open_cell init_name find_name read_name put_name digits
 stepped_behind = path_is 10 [] [] stepped_behind_script refl
 
 -- let s = "a"; s += 1; if (s === "a1") {}
@@ -195,11 +209,11 @@ compound_script = (declare_ 0 Let ((named 4 (codes "s"), (Some (leaf (Expr-F.Tex
     37 []) ∷ []) ∷ [])
 
 compound : goes 10 [] [] compound_script ≡ ((branched 21 1 ∷ []), Done)
-unfolding count turn new_object call_builtin construct get_row bracket_row set_row test_row logical_row binary_row unary_row step_row open_cell init_name find_name digits
+unfolding count turn new_object call_builtin construct get_row bracket_row set_row test_row logical_row binary_row unary_row step_row open_cell init_name find_name read_name put_name digits
 compound = path_is 10 [] [] compound_script refl
 
 compound_steps : uses 10 [] [] compound_script ≡ 11
-unfolding count turn new_object call_builtin construct get_row bracket_row set_row test_row logical_row binary_row unary_row step_row open_cell init_name find_name digits
+unfolding count turn new_object call_builtin construct get_row bracket_row set_row test_row logical_row binary_row unary_row step_row open_cell init_name find_name read_name put_name digits
 compound_steps = steps_are 10 [] [] compound_script refl
 
 -- let o = { a: 1 }; o.a += 2; if (o.a === 3) {}
@@ -211,7 +225,7 @@ compound_property_script = (declare_ 0 Let ((named 4 (codes "o"), (Some (object 
     (Expr-F.Number 40 3)) ∷ [])) (braces 43 []) ∷ []) ∷ [])
 
 compound_property : goes 10 [] [] compound_property_script ≡ ((branched 28 1 ∷ []), Done)
-unfolding count turn new_object call_builtin construct get_row bracket_row set_row test_row logical_row binary_row unary_row step_row open_cell init_name find_name digits
+unfolding count turn new_object call_builtin construct get_row bracket_row set_row test_row logical_row binary_row unary_row step_row open_cell init_name find_name read_name put_name digits
 compound_property = path_is 10 [] [] compound_property_script refl
 
 -- let a = 1; let o = { a, 7: 2 }; if (o.a === 1) {} if (o.b === undefined) {}
@@ -224,7 +238,7 @@ own_keys_of_plain_script = (declare_ 0 Let ((named 4 (codes "a"), (Some (leaf (E
     (leaf (Expr-F.Name (named 62 (codes "undefined")))) ∷ [])) (braces 73 []) ∷ []) ∷ [])
 
 own_keys_of_plain : goes 10 [] [] own_keys_of_plain_script ≡ ((branched 32 1 ∷ branched 50 1 ∷ []), Done)
-unfolding count turn new_object call_builtin construct get_row bracket_row set_row test_row logical_row binary_row unary_row step_row open_cell init_name find_name digits
+unfolding count turn new_object call_builtin construct get_row bracket_row set_row test_row logical_row binary_row unary_row step_row open_cell init_name find_name read_name put_name digits
 own_keys_of_plain = path_is 10 [] [] own_keys_of_plain_script refl
 
 -- let o = {}; o.x = 1; if (o.x === 1) {}
@@ -235,11 +249,11 @@ property_made_script = (declare_ 0 Let ((named 4 (codes "o"), (Some (object 8 []
     op.Equal (leaf (Expr-F.Number 33 1)) ∷ [])) (braces 36 []) ∷ []) ∷ [])
 
 property_made : goes 10 [] [] property_made_script ≡ ((branched 21 1 ∷ []), Done)
-unfolding count turn new_object call_builtin construct get_row bracket_row set_row test_row logical_row binary_row unary_row step_row open_cell init_name find_name digits
+unfolding count turn new_object call_builtin construct get_row bracket_row set_row test_row logical_row binary_row unary_row step_row open_cell init_name find_name read_name put_name digits
 property_made = path_is 10 [] [] property_made_script refl
 
 property_made_steps : uses 10 [] [] property_made_script ≡ 13
-unfolding count turn new_object call_builtin construct get_row bracket_row set_row test_row logical_row binary_row unary_row step_row open_cell init_name find_name digits
+unfolding count turn new_object call_builtin construct get_row bracket_row set_row test_row logical_row binary_row unary_row step_row open_cell init_name find_name read_name put_name digits
 property_made_steps = steps_are 10 [] [] property_made_script refl
 
 -- if ([1, 2].length === "ab".length) {}
@@ -249,7 +263,7 @@ array_length_script = (if_ (when 0 (binary (call (array 4 (leaf (Expr-F.Number 5
     (codes "length")) ∷ [])) ∷ [])) (braces 35 []) ∷ []) ∷ [])
 
 array_length : goes 10 [] [] array_length_script ≡ ((branched 0 1 ∷ []), Done)
-unfolding count turn new_object call_builtin construct get_row bracket_row set_row test_row logical_row binary_row unary_row step_row open_cell init_name find_name digits
+unfolding count turn new_object call_builtin construct get_row bracket_row set_row test_row logical_row binary_row unary_row step_row open_cell init_name find_name read_name put_name digits
 array_length = path_is 10 [] [] array_length_script refl
 
 -- let o = { m: function () { return this; } }; let r = o.m(); if (r === o) {}
@@ -265,7 +279,7 @@ this_of_method_script ss1 = (declare_ 0 Let ((named 4 (codes "o"), (Some (object
 
 this_of_method_run : (ss1 : List Stmt) → body_of (statements ss1) ≡ known_block this_of_method_body_1 → runs 1 [] []
     (this_of_method_script ss1) ≡ ((branched 60 1 ∷ []), Done)
-unfolding count turn new_object call_builtin construct get_row bracket_row set_row test_row logical_row binary_row unary_row step_row open_cell init_name find_name digits
+unfolding count turn new_object call_builtin construct get_row bracket_row set_row test_row logical_row binary_row unary_row step_row open_cell init_name find_name read_name put_name digits
 this_of_method_run ss1 p1 = rw p1 refl
 
 this_of_method : goes 1 [] [] (this_of_method_script (stmt_trees this_of_method_body_1)) ≡ ((branched 60 1 ∷ []),
@@ -286,7 +300,7 @@ this_in_parentheses_script ss1 = (declare_ 0 Let ((named 4 (codes "o"), (Some (o
 
 this_in_parentheses_run : (ss1 : List Stmt) → body_of (statements ss1) ≡ known_block this_in_parentheses_body_1 → runs
     1 [] [] (this_in_parentheses_script ss1) ≡ ((branched 62 1 ∷ []), Done)
-unfolding count turn new_object call_builtin construct get_row bracket_row set_row test_row logical_row binary_row unary_row step_row open_cell init_name find_name digits
+unfolding count turn new_object call_builtin construct get_row bracket_row set_row test_row logical_row binary_row unary_row step_row open_cell init_name find_name read_name put_name digits
 this_in_parentheses_run ss1 p1 = rw p1 refl
 
 this_in_parentheses : goes 1 [] [] (this_in_parentheses_script (stmt_trees this_in_parentheses_body_1)) ≡ ((branched
@@ -305,7 +319,7 @@ this_of_function_script ss1 = (declare_ 0 Let ((named 4 (codes "r"), (Some (call
 
 this_of_function_run : (ss1 : List Stmt) → body_of (statements ss1) ≡ known_block this_of_function_body_1 → runs 1 []
     [] (this_of_function_script ss1) ≡ ((branched 42 1 ∷ []), Done)
-unfolding count turn new_object call_builtin construct get_row bracket_row set_row test_row logical_row binary_row unary_row step_row open_cell init_name find_name digits
+unfolding count turn new_object call_builtin construct get_row bracket_row set_row test_row logical_row binary_row unary_row step_row open_cell init_name find_name read_name put_name digits
 this_of_function_run ss1 p1 = rw p1 refl
 
 this_of_function : goes 1 [] [] (this_of_function_script (stmt_trees this_of_function_body_1)) ≡ ((branched 42 1 ∷
@@ -326,7 +340,7 @@ missing_argument_script ss1 = (still (Stmt-F.Function 0 (named 9 (codes "f")) ((
 
 missing_argument_run : (ss1 : List Stmt) → body_of (statements ss1) ≡ known_block missing_argument_body_1 → runs 1 []
     [] (missing_argument_script ss1) ≡ ((branched 45 1 ∷ []), Done)
-unfolding count turn new_object call_builtin construct get_row bracket_row set_row test_row logical_row binary_row unary_row step_row open_cell init_name find_name digits
+unfolding count turn new_object call_builtin construct get_row bracket_row set_row test_row logical_row binary_row unary_row step_row open_cell init_name find_name read_name put_name digits
 missing_argument_run ss1 p1 = rw p1 refl
 
 missing_argument : goes 1 [] [] (missing_argument_script (stmt_trees missing_argument_body_1)) ≡ ((branched 45 1 ∷
@@ -346,7 +360,7 @@ further_argument_script ss1 = (still (Stmt-F.Function 0 (named 9 (codes "f")) ((
 
 further_argument_run : (ss1 : List Stmt) → body_of (statements ss1) ≡ known_block further_argument_body_1 → runs 1 []
     [] (further_argument_script ss1) ≡ ((branched 45 1 ∷ []), Done)
-unfolding count turn new_object call_builtin construct get_row bracket_row set_row test_row logical_row binary_row unary_row step_row open_cell init_name find_name digits
+unfolding count turn new_object call_builtin construct get_row bracket_row set_row test_row logical_row binary_row unary_row step_row open_cell init_name find_name read_name put_name digits
 further_argument_run ss1 p1 = rw p1 refl
 
 further_argument : goes 1 [] [] (further_argument_script (stmt_trees further_argument_body_1)) ≡ ((branched 45 1 ∷
@@ -366,7 +380,7 @@ counter_script ss1 = (declare_ 0 Let ((named 4 (codes "c"), (Some (leaf (Expr-F.
 
 counter_run : (ss1 : List Stmt) → body_of (statements ss1) ≡ known_block counter_body_1 → runs 1 [] [] (counter_script
     ss1) ≡ ((branched 40 1 ∷ []), Done)
-unfolding count turn new_object call_builtin construct get_row bracket_row set_row test_row logical_row binary_row unary_row step_row open_cell init_name find_name digits
+unfolding count turn new_object call_builtin construct get_row bracket_row set_row test_row logical_row binary_row unary_row step_row open_cell init_name find_name read_name put_name digits
 counter_run ss1 p1 = rw p1 refl
 
 counter : goes 1 [] [] (counter_script (stmt_trees counter_body_1)) ≡ ((branched 40 1 ∷ []), Done)

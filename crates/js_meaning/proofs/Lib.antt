@@ -1,4 +1,3 @@
-pub mod RowsApart
 pub mod Opens
 pub mod Known
 pub mod KnownStatements
@@ -10,4 +9,6 @@ pub mod Throws
 pub mod Leaving
 pub mod Expressions
 pub mod Calls
+pub mod Bindings
 pub mod Limits
+pub mod RowsApart

@@ -17,7 +17,7 @@ use Rattle.js_meaning.specs.Conversions.{number_value, to_number, to_string, to_
 use Rattle.js_meaning.specs.Builtins.{is_method, is_static, among, array_methods, pattern_methods}
 use Rattle.js_meaning.specs.Objects.{get_row, get_own, get_from, other, own_or_other, own_or_undefined, message_row, error_row, property_row, bracket_row, bracket_method, bracket_static, static_key, look_up, object_at, inherited_names, holds, length_or, may_have_methods, Written, add_property, add_item, set_named, set_in, set_row, with_property, with_item, no_room, set_leaves, inherits}
 use Rattle.js_meaning.specs.Operators.{test_row, logical_row, converted, on_number, on_numbers, in_range, joined, joins, add_row, add_texts, add_numbers, subtract_row, multiply_row, divide_row, remainder_row, order_row, binary_row, unary_row, step_row, stepped, text_less, strictly_equal, type_of}
-use Rattle.js_meaning.specs.Apart.{Places, nowhere, only, Apart, Guarding, EndIn, RowApart, WrittenIn}
+use Rattle.js_meaning.specs.Apart.{Sites, nowhere, only, Apart, Guarding, EndIn, RowApart, WrittenIn}
 
 -- ---- what rows are made of
 
@@ -28,7 +28,7 @@ Given (comes_to r) = Unit {0}
 Given (raises site name) = Unit {0}
 Given (ends x) = ⊥
 
-giving_apart : {S : Places} (x : Value) → RowApart S (giving x)
+giving_apart : {S : Sites} (x : Value) → RowApart S (giving x)
 giving_apart x = record { items = tt; end = tt; apart = tt }
 
 ending_apart : (site : ℕ) (w : Why) → RowApart (only site) (ending site w)
@@ -71,7 +71,7 @@ joined_apart site s t = guarded_apart site why.Size (nat_le (length (s ++ t)) te
 texts_apart : (site : ℕ) (x y : Value) → RowApart (only site) (add_texts site x y)
 texts_apart site x y = converted_apart site (to_string x) _ (λ s. converted_apart site (to_string y) _ (joined_apart site s))
 
-chosen_apart : {S : Places} (b : Bool) (r q : Row) → RowApart S r → RowApart S q → RowApart S (if b then r else q)
+chosen_apart : {S : Sites} (b : Bool) (r q : Row) → RowApart S r → RowApart S q → RowApart S (if b then r else q)
 chosen_apart true r q h k = h
 chosen_apart false r q h k = k
 
@@ -131,7 +131,7 @@ step_apart o site x = number_apart site _ x (λ n. range_apart site (stepped o n
 -- ---- properties: no guard so far
 
 -- no item, and no end outside the profile
-still_apart : {S : Places} (a : Answer) → Given a → RowApart S ([], a)
+still_apart : {S : Sites} (a : Answer) → Given a → RowApart S ([], a)
 still_apart (gives x) g = record { items = tt; end = tt; apart = tt }
 still_apart (comes_to r) g = record { items = tt; end = tt; apart = tt }
 still_apart (ends x) g = elim g [ ]
@@ -140,7 +140,7 @@ still_apart (raises site name) g = record { items = tt; end = tt; apart = tt }
 other_apart : (site : ℕ) (base : Value) (key : Text) → RowApart (only site) (other site base key)
 other_apart site base key = chosen_apart (is_method key) ([], comes_to (method site base key)) (ending site why.Inherited) (still_apart (comes_to (method site base key)) tt) (ending_apart site why.Inherited)
 
-holds_apart : {S : Places} (base x : Value) → RowApart S (holds base x)
+holds_apart : {S : Sites} (base x : Value) → RowApart S (holds base x)
 holds_apart base x = record { items = tt; end = tt; apart = tt }
 
 own_apart : (site : ℕ) (base : Value) (key : Text) (o : Option Value) → RowApart (only site) (own_or_other site base key o)

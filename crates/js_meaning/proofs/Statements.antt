@@ -18,7 +18,7 @@ use Rattle.js_meaning.specs.Running.{count, turn, new_object}
 use Rattle.js_meaning.specs.Builtins.{call_builtin, construct}
 use Rattle.js_meaning.specs.Objects.{get_row, bracket_row, set_row}
 use Rattle.js_meaning.specs.Operators.{test_row, logical_row, binary_row, unary_row, step_row}
-use Rattle.js_meaning.specs.Names.{open_cell, init_name, find_name}
+use Rattle.js_meaning.specs.Names.{open_cell, init_name, find_name, read_name, put_name}
 use Rattle.js_meaning.proofs.Known.{Known, named, leaf, array, new_, unary, conditional, link, binary, logical, valued, short, object, dot, bracket, get, call_, call, to_name, to_property, step, assign}
 use Rattle.js_meaning.proofs.KnownStatements.{KnownStmt, stmt_trees, known_block, known_value, body_known, value_known, function_, arrow_block, still, braces, express, throw_, return_, declare_}
 use Rattle.js_meaning.proofs.KnownForms.{when, if_, if_else, while_, do_, for_of_, no_head, value_head, declare_head, for_, try_}
@@ -36,11 +36,11 @@ scopes_script = (declare_ 0 Let ((named 4 (codes "a"), (Some (leaf (Expr-F.Numbe
     [])
 
 scopes : goes 10 [] [] scopes_script ≡ ((branched 26 1 ∷ []), Done)
-unfolding count turn new_object call_builtin construct get_row bracket_row set_row test_row logical_row binary_row unary_row step_row open_cell init_name find_name digits
+unfolding count turn new_object call_builtin construct get_row bracket_row set_row test_row logical_row binary_row unary_row step_row open_cell init_name find_name read_name put_name digits
 scopes = path_is 10 [] [] scopes_script refl
 
 scopes_steps : uses 10 [] [] scopes_script ≡ 10
-unfolding count turn new_object call_builtin construct get_row bracket_row set_row test_row logical_row binary_row unary_row step_row open_cell init_name find_name digits
+unfolding count turn new_object call_builtin construct get_row bracket_row set_row test_row logical_row binary_row unary_row step_row open_cell init_name find_name read_name put_name digits
 scopes_steps = steps_are 10 [] [] scopes_script refl
 
 -- ;
@@ -48,11 +48,11 @@ abbrev nothing_script : List KnownStmt
 nothing_script = (still (Stmt-F.Nothing 0) ∷ [])
 
 nothing : goes 10 [] [] nothing_script ≡ ([], Done)
-unfolding count turn new_object call_builtin construct get_row bracket_row set_row test_row logical_row binary_row unary_row step_row open_cell init_name find_name digits
+unfolding count turn new_object call_builtin construct get_row bracket_row set_row test_row logical_row binary_row unary_row step_row open_cell init_name find_name read_name put_name digits
 nothing = path_is 10 [] [] nothing_script refl
 
 nothing_steps : uses 10 [] [] nothing_script ≡ 1
-unfolding count turn new_object call_builtin construct get_row bracket_row set_row test_row logical_row binary_row unary_row step_row open_cell init_name find_name digits
+unfolding count turn new_object call_builtin construct get_row bracket_row set_row test_row logical_row binary_row unary_row step_row open_cell init_name find_name read_name put_name digits
 nothing_steps = steps_are 10 [] [] nothing_script refl
 
 -- let u; if (u === undefined) {}
@@ -62,7 +62,7 @@ no_value_script = (declare_ 0 Let ((named 4 (codes "u"), None) ∷ []) ∷ if_ (
     []) ∷ [])
 
 no_value : goes 10 [] [] no_value_script ≡ ((branched 7 1 ∷ []), Done)
-unfolding count turn new_object call_builtin construct get_row bracket_row set_row test_row logical_row binary_row unary_row step_row open_cell init_name find_name digits
+unfolding count turn new_object call_builtin construct get_row bracket_row set_row test_row logical_row binary_row unary_row step_row open_cell init_name find_name read_name put_name digits
 no_value = path_is 10 [] [] no_value_script refl
 
 -- if (f() === 1) {} function f() { return 1; }
@@ -76,7 +76,7 @@ entered_script ss1 = (if_ (when 0 (binary (call (leaf (Expr-F.Name (named 4 (cod
 
 entered_run : (ss1 : List Stmt) → body_of (statements ss1) ≡ known_block entered_body_1 → runs 1 [] [] (entered_script
     ss1) ≡ ((branched 0 1 ∷ []), Done)
-unfolding count turn new_object call_builtin construct get_row bracket_row set_row test_row logical_row binary_row unary_row step_row open_cell init_name find_name digits
+unfolding count turn new_object call_builtin construct get_row bracket_row set_row test_row logical_row binary_row unary_row step_row open_cell init_name find_name read_name put_name digits
 entered_run ss1 p1 = rw p1 refl
 
 entered : goes 1 [] [] (entered_script (stmt_trees entered_body_1)) ≡ ((branched 0 1 ∷ []), Done)
@@ -94,7 +94,7 @@ no_return_script ss1 = (still (Stmt-F.Function 0 (named 9 (codes "f")) [] ss1) �
 
 no_return_run : (ss1 : List Stmt) → body_of (statements ss1) ≡ known_block no_return_body_1 → runs 1 [] []
     (no_return_script ss1) ≡ ((branched 25 1 ∷ []), Done)
-unfolding count turn new_object call_builtin construct get_row bracket_row set_row test_row logical_row binary_row unary_row step_row open_cell init_name find_name digits
+unfolding count turn new_object call_builtin construct get_row bracket_row set_row test_row logical_row binary_row unary_row step_row open_cell init_name find_name read_name put_name digits
 no_return_run ss1 p1 = rw p1 refl
 
 no_return : goes 1 [] [] (no_return_script (stmt_trees no_return_body_1)) ≡ ((branched 25 1 ∷ []), Done)
@@ -112,7 +112,7 @@ body_ends_script ss1 = (still (Stmt-F.Function 0 (named 9 (codes "f")) [] ss1) �
 
 body_ends_run : (ss1 : List Stmt) → body_of (statements ss1) ≡ known_block body_ends_body_1 → runs 1 [] []
     (body_ends_script ss1) ≡ ((branched 20 1 ∷ []), Done)
-unfolding count turn new_object call_builtin construct get_row bracket_row set_row test_row logical_row binary_row unary_row step_row open_cell init_name find_name digits
+unfolding count turn new_object call_builtin construct get_row bracket_row set_row test_row logical_row binary_row unary_row step_row open_cell init_name find_name read_name put_name digits
 body_ends_run ss1 p1 = rw p1 refl
 
 body_ends : goes 1 [] [] (body_ends_script (stmt_trees body_ends_body_1)) ≡ ((branched 20 1 ∷ []), Done)
@@ -125,11 +125,11 @@ arms_script = (if_else (when 0 (leaf (Expr-F.Number 4 0)) (braces 7 []) ∷ when
     []) ∷ []) (throw_ 33 (leaf (Expr-F.Number 39 1))) ∷ [])
 
 arms : goes 10 [] [] arms_script ≡ ((branched 0 0 ∷ branched 15 0 ∷ []), Threw 33 thrown.Value)
-unfolding count turn new_object call_builtin construct get_row bracket_row set_row test_row logical_row binary_row unary_row step_row open_cell init_name find_name digits
+unfolding count turn new_object call_builtin construct get_row bracket_row set_row test_row logical_row binary_row unary_row step_row open_cell init_name find_name read_name put_name digits
 arms = path_is 10 [] [] arms_script refl
 
 arms_steps : uses 10 [] [] arms_script ≡ 6
-unfolding count turn new_object call_builtin construct get_row bracket_row set_row test_row logical_row binary_row unary_row step_row open_cell init_name find_name digits
+unfolding count turn new_object call_builtin construct get_row bracket_row set_row test_row logical_row binary_row unary_row step_row open_cell init_name find_name read_name put_name digits
 arms_steps = steps_are 10 [] [] arms_script refl
 
 -- let i = 0; while (true) { if (i === 1) break; i++; }
@@ -141,7 +141,7 @@ while_break_script = (declare_ 0 Let ((named 4 (codes "i"), (Some (leaf (Expr-F.
 
 while_break : goes 10 [] [] while_break_script ≡ ((branched 11 1 ∷ branched 26 0 ∷ branched 11 1 ∷ branched 26 1 ∷
     []), Done)
-unfolding count turn new_object call_builtin construct get_row bracket_row set_row test_row logical_row binary_row unary_row step_row open_cell init_name find_name digits
+unfolding count turn new_object call_builtin construct get_row bracket_row set_row test_row logical_row binary_row unary_row step_row open_cell init_name find_name read_name put_name digits
 while_break = path_is 10 [] [] while_break_script refl
 
 -- let i = 0; do { i++; if (i === 1) continue; } while (i < 2);
@@ -154,7 +154,7 @@ do_continue_script = (declare_ 0 Let ((named 4 (codes "i"), (Some (leaf (Expr-F.
 
 do_continue : goes 10 [] [] do_continue_script ≡ ((branched 21 1 ∷ branched 46 1 ∷ branched 21 0 ∷ branched 46 0 ∷
     []), Done)
-unfolding count turn new_object call_builtin construct get_row bracket_row set_row test_row logical_row binary_row unary_row step_row open_cell init_name find_name digits
+unfolding count turn new_object call_builtin construct get_row bracket_row set_row test_row logical_row binary_row unary_row step_row open_cell init_name find_name read_name put_name digits
 do_continue = path_is 10 [] [] do_continue_script refl
 
 -- do {} while (true);
@@ -162,7 +162,7 @@ abbrev do_endless_script : List KnownStmt
 do_endless_script = (do_ 0 (braces 3 []) 6 (leaf (Expr-F.True 13)) ∷ [])
 
 do_endless : goes 2 [] [] do_endless_script ≡ ((branched 6 1 ∷ branched 6 1 ∷ []), Cut 0 budget.Turns)
-unfolding count turn new_object call_builtin construct get_row bracket_row set_row test_row logical_row binary_row unary_row step_row open_cell init_name find_name digits
+unfolding count turn new_object call_builtin construct get_row bracket_row set_row test_row logical_row binary_row unary_row step_row open_cell init_name find_name read_name put_name digits
 do_endless = path_is 2 [] [] do_endless_script refl
 
 -- for (let i = 0; i < 2; i++) {}
@@ -172,11 +172,11 @@ for_let_script = (for_ 0 (declare_head Let ((named 9 (codes "i"), (Some (leaf (E
     (step 23 24 Increment false (to_name (named 23 (codes "i"))))) (braces 28 []) ∷ [])
 
 for_let : goes 10 [] [] for_let_script ≡ ((branched 0 1 ∷ branched 0 1 ∷ branched 0 0 ∷ []), Done)
-unfolding count turn new_object call_builtin construct get_row bracket_row set_row test_row logical_row binary_row unary_row step_row open_cell init_name find_name digits
+unfolding count turn new_object call_builtin construct get_row bracket_row set_row test_row logical_row binary_row unary_row step_row open_cell init_name find_name read_name put_name digits
 for_let = path_is 10 [] [] for_let_script refl
 
 for_let_steps : uses 10 [] [] for_let_script ≡ 17
-unfolding count turn new_object call_builtin construct get_row bracket_row set_row test_row logical_row binary_row unary_row step_row open_cell init_name find_name digits
+unfolding count turn new_object call_builtin construct get_row bracket_row set_row test_row logical_row binary_row unary_row step_row open_cell init_name find_name read_name put_name digits
 for_let_steps = steps_are 10 [] [] for_let_script refl
 
 -- for (;;) break;
@@ -184,7 +184,7 @@ abbrev for_nothing_script : List KnownStmt
 for_nothing_script = (for_ 0 no_head None None (still (Stmt-F.Break 9)) ∷ [])
 
 for_nothing : goes 10 [] [] for_nothing_script ≡ ([], Done)
-unfolding count turn new_object call_builtin construct get_row bracket_row set_row test_row logical_row binary_row unary_row step_row open_cell init_name find_name digits
+unfolding count turn new_object call_builtin construct get_row bracket_row set_row test_row logical_row binary_row unary_row step_row open_cell init_name find_name read_name put_name digits
 for_nothing = path_is 10 [] [] for_nothing_script refl
 
 -- for (;;) {}
@@ -192,7 +192,7 @@ abbrev for_endless_script : List KnownStmt
 for_endless_script = (for_ 0 no_head None None (braces 9 []) ∷ [])
 
 for_endless : goes 3 [] [] for_endless_script ≡ ([], Cut 0 budget.Turns)
-unfolding count turn new_object call_builtin construct get_row bracket_row set_row test_row logical_row binary_row unary_row step_row open_cell init_name find_name digits
+unfolding count turn new_object call_builtin construct get_row bracket_row set_row test_row logical_row binary_row unary_row step_row open_cell init_name find_name read_name put_name digits
 for_endless = path_is 3 [] [] for_endless_script refl
 
 -- let i = 5; for (i = 0; i < 1; i += 1) {} if (i === 1) {}
@@ -205,7 +205,7 @@ for_value_script = (declare_ 0 Let ((named 4 (codes "i"), (Some (leaf (Expr-F.Nu
     []) ∷ [])
 
 for_value : goes 10 [] [] for_value_script ≡ ((branched 11 1 ∷ branched 11 0 ∷ branched 41 1 ∷ []), Done)
-unfolding count turn new_object call_builtin construct get_row bracket_row set_row test_row logical_row binary_row unary_row step_row open_cell init_name find_name digits
+unfolding count turn new_object call_builtin construct get_row bracket_row set_row test_row logical_row binary_row unary_row step_row open_cell init_name find_name read_name put_name digits
 for_value = path_is 10 [] [] for_value_script refl
 
 -- for (const c = 1; c < 1;) {}
@@ -215,7 +215,7 @@ for_const_script = (for_ 0 (declare_head Const ((named 11 (codes "c"), (Some (le
     None (braces 26 []) ∷ [])
 
 for_const : goes 10 [] [] for_const_script ≡ ((branched 0 0 ∷ []), Done)
-unfolding count turn new_object call_builtin construct get_row bracket_row set_row test_row logical_row binary_row unary_row step_row open_cell init_name find_name digits
+unfolding count turn new_object call_builtin construct get_row bracket_row set_row test_row logical_row binary_row unary_row step_row open_cell init_name find_name read_name put_name digits
 for_const = path_is 10 [] [] for_const_script refl
 
 -- for (const x of [1, 2]) { if (x === 2) {} }
@@ -225,7 +225,7 @@ for_of_script = (for_of_ 0 Const (named 11 (codes "x")) (array 16 (leaf (Expr-F.
     (Expr-F.Number 36 2)) ∷ [])) (braces 39 []) ∷ []) ∷ [])) ∷ [])
 
 for_of : goes 10 [] [] for_of_script ≡ ((branched 26 0 ∷ branched 26 1 ∷ []), Done)
-unfolding count turn new_object call_builtin construct get_row bracket_row set_row test_row logical_row binary_row unary_row step_row open_cell init_name find_name digits
+unfolding count turn new_object call_builtin construct get_row bracket_row set_row test_row logical_row binary_row unary_row step_row open_cell init_name find_name read_name put_name digits
 for_of = path_is 10 [] [] for_of_script refl
 
 -- for (let x of x) {}
@@ -234,7 +234,7 @@ of_itself_script = (for_of_ 0 Let (named 9 (codes "x")) (leaf (Expr-F.Name (name
     [])
 
 of_itself : goes 10 [] [] of_itself_script ≡ ([], Threw 14 (thrown.Named fault.ReferenceError))
-unfolding count turn new_object call_builtin construct get_row bracket_row set_row test_row logical_row binary_row unary_row step_row open_cell init_name find_name digits
+unfolding count turn new_object call_builtin construct get_row bracket_row set_row test_row logical_row binary_row unary_row step_row open_cell init_name find_name read_name put_name digits
 of_itself = path_is 10 [] [] of_itself_script refl
 
 -- for (const x of "ab") {}
@@ -242,7 +242,7 @@ abbrev of_string_script : List KnownStmt
 of_string_script = (for_of_ 0 Const (named 11 (codes "x")) (leaf (Expr-F.Text 16 (codes "ab"))) (braces 22 []) ∷ [])
 
 of_string : goes 10 [] [] of_string_script ≡ ([], Left 0 why.Iterate 0 0)
-unfolding count turn new_object call_builtin construct get_row bracket_row set_row test_row logical_row binary_row unary_row step_row open_cell init_name find_name digits
+unfolding count turn new_object call_builtin construct get_row bracket_row set_row test_row logical_row binary_row unary_row step_row open_cell init_name find_name read_name put_name digits
 of_string = path_is 10 [] [] of_string_script refl
 
 -- for (const x of 5) {}
@@ -250,7 +250,7 @@ abbrev of_number_script : List KnownStmt
 of_number_script = (for_of_ 0 Const (named 11 (codes "x")) (leaf (Expr-F.Number 16 5)) (braces 19 []) ∷ [])
 
 of_number : goes 10 [] [] of_number_script ≡ ([], Threw 0 (thrown.Named fault.TypeError))
-unfolding count turn new_object call_builtin construct get_row bracket_row set_row test_row logical_row binary_row unary_row step_row open_cell init_name find_name digits
+unfolding count turn new_object call_builtin construct get_row bracket_row set_row test_row logical_row binary_row unary_row step_row open_cell init_name find_name read_name put_name digits
 of_number = path_is 10 [] [] of_number_script refl
 
 -- for (const x of [1]) x = 2;
@@ -259,7 +259,7 @@ of_const_script = (for_of_ 0 Const (named 11 (codes "x")) (array 16 (leaf (Expr-
     (assign 21 23 None (to_name (named 21 (codes "x"))) (leaf (Expr-F.Number 25 2)))) ∷ [])
 
 of_const : goes 10 [] [] of_const_script ≡ ([], Threw 21 (thrown.Named fault.TypeError))
-unfolding count turn new_object call_builtin construct get_row bracket_row set_row test_row logical_row binary_row unary_row step_row open_cell init_name find_name digits
+unfolding count turn new_object call_builtin construct get_row bracket_row set_row test_row logical_row binary_row unary_row step_row open_cell init_name find_name read_name put_name digits
 of_const = path_is 10 [] [] of_const_script refl
 
 -- function f() { while (true) { return 1; } } if (f() === 1) {}
@@ -274,7 +274,7 @@ return_from_loop_script ss1 = (still (Stmt-F.Function 0 (named 9 (codes "f")) []
 
 return_from_loop_run : (ss1 : List Stmt) → body_of (statements ss1) ≡ known_block return_from_loop_body_1 → runs 2 []
     [] (return_from_loop_script ss1) ≡ ((branched 15 1 ∷ branched 44 1 ∷ []), Done)
-unfolding count turn new_object call_builtin construct get_row bracket_row set_row test_row logical_row binary_row unary_row step_row open_cell init_name find_name digits
+unfolding count turn new_object call_builtin construct get_row bracket_row set_row test_row logical_row binary_row unary_row step_row open_cell init_name find_name read_name put_name digits
 return_from_loop_run ss1 p1 = rw p1 refl
 
 return_from_loop : goes 2 [] [] (return_from_loop_script (stmt_trees return_from_loop_body_1)) ≡ ((branched 15 1 ∷
@@ -287,11 +287,11 @@ abbrev thrown_value_script : List KnownStmt
 thrown_value_script = (throw_ 0 (leaf (Expr-F.Number 6 1)) ∷ [])
 
 thrown_value : goes 10 [] [] thrown_value_script ≡ ([], Threw 0 thrown.Value)
-unfolding count turn new_object call_builtin construct get_row bracket_row set_row test_row logical_row binary_row unary_row step_row open_cell init_name find_name digits
+unfolding count turn new_object call_builtin construct get_row bracket_row set_row test_row logical_row binary_row unary_row step_row open_cell init_name find_name read_name put_name digits
 thrown_value = path_is 10 [] [] thrown_value_script refl
 
 thrown_value_steps : uses 10 [] [] thrown_value_script ≡ 2
-unfolding count turn new_object call_builtin construct get_row bracket_row set_row test_row logical_row binary_row unary_row step_row open_cell init_name find_name digits
+unfolding count turn new_object call_builtin construct get_row bracket_row set_row test_row logical_row binary_row unary_row step_row open_cell init_name find_name read_name put_name digits
 thrown_value_steps = steps_are 10 [] [] thrown_value_script refl
 
 -- try { null.x; } catch (e) { throw e; }
@@ -300,7 +300,7 @@ thrown_again_script = (try_ 0 (express 6 (call (leaf (Expr-F.Null 6)) (get (dot 
     ((Some (named 23 (codes "e"))), (throw_ 28 (leaf (Expr-F.Name (named 34 (codes "e")))) ∷ []))) None ∷ [])
 
 thrown_again : goes 10 [] [] thrown_again_script ≡ ([], Threw 28 (thrown.Named fault.TypeError))
-unfolding count turn new_object call_builtin construct get_row bracket_row set_row test_row logical_row binary_row unary_row step_row open_cell init_name find_name digits
+unfolding count turn new_object call_builtin construct get_row bracket_row set_row test_row logical_row binary_row unary_row step_row open_cell init_name find_name read_name put_name digits
 thrown_again = path_is 10 [] [] thrown_again_script refl
 
 -- try { throw 1; } catch (e) { if (e === 1) {} }
@@ -310,7 +310,7 @@ catch_name_script = (try_ 0 (throw_ 6 (leaf (Expr-F.Number 12 1)) ∷ []) (Some 
     (braces 42 []) ∷ []) ∷ []))) None ∷ [])
 
 catch_name : goes 10 [] [] catch_name_script ≡ ((branched 29 1 ∷ []), Done)
-unfolding count turn new_object call_builtin construct get_row bracket_row set_row test_row logical_row binary_row unary_row step_row open_cell init_name find_name digits
+unfolding count turn new_object call_builtin construct get_row bracket_row set_row test_row logical_row binary_row unary_row step_row open_cell init_name find_name read_name put_name digits
 catch_name = path_is 10 [] [] catch_name_script refl
 
 -- try { throw 1; } catch { }
@@ -318,7 +318,7 @@ abbrev catch_alone_script : List KnownStmt
 catch_alone_script = (try_ 0 (throw_ 6 (leaf (Expr-F.Number 12 1)) ∷ []) (Some (None, [])) None ∷ [])
 
 catch_alone : goes 10 [] [] catch_alone_script ≡ ([], Done)
-unfolding count turn new_object call_builtin construct get_row bracket_row set_row test_row logical_row binary_row unary_row step_row open_cell init_name find_name digits
+unfolding count turn new_object call_builtin construct get_row bracket_row set_row test_row logical_row binary_row unary_row step_row open_cell init_name find_name read_name put_name digits
 catch_alone = path_is 10 [] [] catch_alone_script refl
 
 -- function f() { throw 1; } try { f(); } catch (e) { throw 2; }
@@ -332,7 +332,7 @@ through_call_script ss1 = (still (Stmt-F.Function 0 (named 9 (codes "f")) [] ss1
 
 through_call_run : (ss1 : List Stmt) → body_of (statements ss1) ≡ known_block through_call_body_1 → runs 1 [] []
     (through_call_script ss1) ≡ ([], Threw 51 thrown.Value)
-unfolding count turn new_object call_builtin construct get_row bracket_row set_row test_row logical_row binary_row unary_row step_row open_cell init_name find_name digits
+unfolding count turn new_object call_builtin construct get_row bracket_row set_row test_row logical_row binary_row unary_row step_row open_cell init_name find_name read_name put_name digits
 through_call_run ss1 p1 = rw p1 refl
 
 through_call : goes 1 [] [] (through_call_script (stmt_trees through_call_body_1)) ≡ ([], Threw 51 thrown.Value)
@@ -351,7 +351,7 @@ finally_replaces_script ss1 = (still (Stmt-F.Function 0 (named 9 (codes "f")) []
 
 finally_replaces_run : (ss1 : List Stmt) → body_of (statements ss1) ≡ known_block finally_replaces_body_1 → runs 1 []
     [] (finally_replaces_script ss1) ≡ ((branched 57 1 ∷ []), Done)
-unfolding count turn new_object call_builtin construct get_row bracket_row set_row test_row logical_row binary_row unary_row step_row open_cell init_name find_name digits
+unfolding count turn new_object call_builtin construct get_row bracket_row set_row test_row logical_row binary_row unary_row step_row open_cell init_name find_name read_name put_name digits
 finally_replaces_run ss1 p1 = rw p1 refl
 
 finally_replaces : goes 1 [] [] (finally_replaces_script (stmt_trees finally_replaces_body_1)) ≡ ((branched 57 1 ∷
@@ -371,7 +371,7 @@ finally_keeps_script ss1 = (still (Stmt-F.Function 0 (named 9 (codes "f")) [] ss
 
 finally_keeps_run : (ss1 : List Stmt) → body_of (statements ss1) ≡ known_block finally_keeps_body_1 → runs 1 [] []
     (finally_keeps_script ss1) ≡ ((branched 50 1 ∷ []), Done)
-unfolding count turn new_object call_builtin construct get_row bracket_row set_row test_row logical_row binary_row unary_row step_row open_cell init_name find_name digits
+unfolding count turn new_object call_builtin construct get_row bracket_row set_row test_row logical_row binary_row unary_row step_row open_cell init_name find_name read_name put_name digits
 finally_keeps_run ss1 p1 = rw p1 refl
 
 finally_keeps : goes 1 [] [] (finally_keeps_script (stmt_trees finally_keeps_body_1)) ≡ ((branched 50 1 ∷ []), Done)
@@ -384,7 +384,7 @@ finally_goes_on_script = (try_ 0 (throw_ 6 (leaf (Expr-F.Number 12 1)) ∷ []) N
     [])) ∷ [])
 
 finally_goes_on : goes 10 [] [] finally_goes_on_script ≡ ([], Threw 6 thrown.Value)
-unfolding count turn new_object call_builtin construct get_row bracket_row set_row test_row logical_row binary_row unary_row step_row open_cell init_name find_name digits
+unfolding count turn new_object call_builtin construct get_row bracket_row set_row test_row logical_row binary_row unary_row step_row open_cell init_name find_name read_name put_name digits
 finally_goes_on = path_is 10 [] [] finally_goes_on_script refl
 
 -- while (true) { try { throw 1; } finally { break; } }
@@ -393,7 +393,7 @@ finally_breaks_script = (while_ 0 (leaf (Expr-F.True 7)) (braces 13 (try_ 15 (th
     []) None (Some (still (Stmt-F.Break 42) ∷ [])) ∷ [])) ∷ [])
 
 finally_breaks : goes 10 [] [] finally_breaks_script ≡ ((branched 0 1 ∷ []), Done)
-unfolding count turn new_object call_builtin construct get_row bracket_row set_row test_row logical_row binary_row unary_row step_row open_cell init_name find_name digits
+unfolding count turn new_object call_builtin construct get_row bracket_row set_row test_row logical_row binary_row unary_row step_row open_cell init_name find_name read_name put_name digits
 finally_breaks = path_is 10 [] [] finally_breaks_script refl
 
 -- function f() { f(); } f();
@@ -406,7 +406,7 @@ calls_run_out_script ss1 = (still (Stmt-F.Function 0 (named 9 (codes "f")) [] ss
 
 calls_run_out_run : (ss1 : List Stmt) → body_of (statements ss1) ≡ known_block calls_run_out_body_1 → runs 1 [] []
     (calls_run_out_script ss1) ≡ ([], Cut 16 budget.Turns)
-unfolding count turn new_object call_builtin construct get_row bracket_row set_row test_row logical_row binary_row unary_row step_row open_cell init_name find_name digits
+unfolding count turn new_object call_builtin construct get_row bracket_row set_row test_row logical_row binary_row unary_row step_row open_cell init_name find_name read_name put_name digits
 calls_run_out_run ss1 p1 = rw p1 refl
 
 calls_run_out : goes 1 [] [] (calls_run_out_script (stmt_trees calls_run_out_body_1)) ≡ ([], Cut 16 budget.Turns)

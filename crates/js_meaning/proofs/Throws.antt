@@ -18,7 +18,7 @@ use Rattle.js_meaning.specs.Running.{count, turn, new_object}
 use Rattle.js_meaning.specs.Builtins.{call_builtin, construct}
 use Rattle.js_meaning.specs.Objects.{get_row, bracket_row, set_row}
 use Rattle.js_meaning.specs.Operators.{test_row, logical_row, binary_row, unary_row, step_row}
-use Rattle.js_meaning.specs.Names.{open_cell, init_name, find_name}
+use Rattle.js_meaning.specs.Names.{open_cell, init_name, find_name, read_name, put_name}
 use Rattle.js_meaning.proofs.Known.{Known, named, leaf, array, new_, unary, conditional, link, binary, logical, valued, short, object, dot, bracket, get, call_, call, to_name, to_property, step, assign}
 use Rattle.js_meaning.proofs.KnownStatements.{KnownStmt, stmt_trees, known_block, known_value, body_known, value_known, function_, arrow_block, still, braces, express, throw_, return_, declare_}
 use Rattle.js_meaning.proofs.KnownForms.{when, if_, if_else, while_, do_, for_of_, no_head, value_head, declare_head, for_, try_}
@@ -34,7 +34,7 @@ read_of_undefined_script = (express 0 (call (leaf (Expr-F.Name (named 0 (codes "
     "x")) ∷ [])) ∷ [])
 
 read_of_undefined : goes 10 [] [] read_of_undefined_script ≡ ([], Threw 9 (thrown.Named fault.TypeError))
-unfolding count turn new_object call_builtin construct get_row bracket_row set_row test_row logical_row binary_row unary_row step_row open_cell init_name find_name digits
+unfolding count turn new_object call_builtin construct get_row bracket_row set_row test_row logical_row binary_row unary_row step_row open_cell init_name find_name read_name put_name digits
 read_of_undefined = path_is 10 [] [] read_of_undefined_script refl
 
 -- null.x;
@@ -42,7 +42,7 @@ abbrev read_of_null_script : List KnownStmt
 read_of_null_script = (express 0 (call (leaf (Expr-F.Null 0)) (get (dot 4 (codes "x")) ∷ [])) ∷ [])
 
 read_of_null : goes 10 [] [] read_of_null_script ≡ ([], Threw 4 (thrown.Named fault.TypeError))
-unfolding count turn new_object call_builtin construct get_row bracket_row set_row test_row logical_row binary_row unary_row step_row open_cell init_name find_name digits
+unfolding count turn new_object call_builtin construct get_row bracket_row set_row test_row logical_row binary_row unary_row step_row open_cell init_name find_name read_name put_name digits
 read_of_null = path_is 10 [] [] read_of_null_script refl
 
 -- null.x = 1;
@@ -51,7 +51,7 @@ write_of_null_script = (express 0 (assign 0 7 None (to_property (leaf (Expr-F.Nu
     (Expr-F.Number 9 1))) ∷ [])
 
 write_of_null : goes 10 [] [] write_of_null_script ≡ ([], Threw 4 (thrown.Named fault.TypeError))
-unfolding count turn new_object call_builtin construct get_row bracket_row set_row test_row logical_row binary_row unary_row step_row open_cell init_name find_name digits
+unfolding count turn new_object call_builtin construct get_row bracket_row set_row test_row logical_row binary_row unary_row step_row open_cell init_name find_name read_name put_name digits
 write_of_null = path_is 10 [] [] write_of_null_script refl
 
 -- null.x = y;
@@ -60,7 +60,7 @@ right_side_first_script = (express 0 (assign 0 7 None (to_property (leaf (Expr-F
     (Expr-F.Name (named 9 (codes "y"))))) ∷ [])
 
 right_side_first : goes 10 [] [] right_side_first_script ≡ ([], Left 9 why.Name 0 0)
-unfolding count turn new_object call_builtin construct get_row bracket_row set_row test_row logical_row binary_row unary_row step_row open_cell init_name find_name digits
+unfolding count turn new_object call_builtin construct get_row bracket_row set_row test_row logical_row binary_row unary_row step_row open_cell init_name find_name read_name put_name digits
 right_side_first = path_is 10 [] [] right_side_first_script refl
 
 -- let a = 1; a();
@@ -69,7 +69,7 @@ no_function_script = (declare_ 0 Let ((named 4 (codes "a"), (Some (leaf (Expr-F.
     (call (leaf (Expr-F.Name (named 11 (codes "a")))) (call_ 12 [] ∷ [])) ∷ [])
 
 no_function : goes 10 [] [] no_function_script ≡ ([], Threw 12 (thrown.Named fault.TypeError))
-unfolding count turn new_object call_builtin construct get_row bracket_row set_row test_row logical_row binary_row unary_row step_row open_cell init_name find_name digits
+unfolding count turn new_object call_builtin construct get_row bracket_row set_row test_row logical_row binary_row unary_row step_row open_cell init_name find_name read_name put_name digits
 no_function = path_is 10 [] [] no_function_script refl
 
 -- let a = 1; a(b);
@@ -79,7 +79,7 @@ arguments_first_script = (declare_ 0 Let ((named 4 (codes "a"), (Some (leaf (Exp
     [])) ∷ [])
 
 arguments_first : goes 10 [] [] arguments_first_script ≡ ([], Left 13 why.Name 0 0)
-unfolding count turn new_object call_builtin construct get_row bracket_row set_row test_row logical_row binary_row unary_row step_row open_cell init_name find_name digits
+unfolding count turn new_object call_builtin construct get_row bracket_row set_row test_row logical_row binary_row unary_row step_row open_cell init_name find_name read_name put_name digits
 arguments_first = path_is 10 [] [] arguments_first_script refl
 
 -- const c = 1; c = 2;
@@ -88,7 +88,7 @@ const_written_script = (declare_ 0 Const ((named 6 (codes "c"), (Some (leaf (Exp
     (assign 13 15 None (to_name (named 13 (codes "c"))) (leaf (Expr-F.Number 17 2))) ∷ [])
 
 const_written : goes 10 [] [] const_written_script ≡ ([], Threw 13 (thrown.Named fault.TypeError))
-unfolding count turn new_object call_builtin construct get_row bracket_row set_row test_row logical_row binary_row unary_row step_row open_cell init_name find_name digits
+unfolding count turn new_object call_builtin construct get_row bracket_row set_row test_row logical_row binary_row unary_row step_row open_cell init_name find_name read_name put_name digits
 const_written = path_is 10 [] [] const_written_script refl
 
 -- const c = 1; c++;
@@ -97,7 +97,7 @@ const_stepped_script = (declare_ 0 Const ((named 6 (codes "c"), (Some (leaf (Exp
     (step 13 14 Increment false (to_name (named 13 (codes "c")))) ∷ [])
 
 const_stepped : goes 10 [] [] const_stepped_script ≡ ([], Threw 13 (thrown.Named fault.TypeError))
-unfolding count turn new_object call_builtin construct get_row bracket_row set_row test_row logical_row binary_row unary_row step_row open_cell init_name find_name digits
+unfolding count turn new_object call_builtin construct get_row bracket_row set_row test_row logical_row binary_row unary_row step_row open_cell init_name find_name read_name put_name digits
 const_stepped = path_is 10 [] [] const_stepped_script refl
 
 -- n = 1;
@@ -106,7 +106,7 @@ input_written_script = (express 0 (assign 0 2 None (to_name (named 0 (codes "n")
 
 input_written : goes 10 (whole (codes "n") (pos 0) (pos 3) ∷ []) (input.Int (pos 2) ∷ []) input_written_script ≡ ([],
     Threw 0 (thrown.Named fault.TypeError))
-unfolding count turn new_object call_builtin construct get_row bracket_row set_row test_row logical_row binary_row unary_row step_row open_cell init_name find_name digits
+unfolding count turn new_object call_builtin construct get_row bracket_row set_row test_row logical_row binary_row unary_row step_row open_cell init_name find_name read_name put_name digits
 input_written = path_is 10 (whole (codes "n") (pos 0) (pos 3) ∷ []) (input.Int (pos 2) ∷ []) input_written_script refl
 
 -- let g = function f() { f = 1; }; g();
@@ -120,7 +120,7 @@ own_name_written_script ss1 = (declare_ 0 Let ((named 4 (codes "g"), (Some (func
 
 own_name_written_run : (ss1 : List Stmt) → body_of (statements ss1) ≡ known_block own_name_written_body_1 → runs 1 []
     [] (own_name_written_script ss1) ≡ ([], Threw 23 (thrown.Named fault.TypeError))
-unfolding count turn new_object call_builtin construct get_row bracket_row set_row test_row logical_row binary_row unary_row step_row open_cell init_name find_name digits
+unfolding count turn new_object call_builtin construct get_row bracket_row set_row test_row logical_row binary_row unary_row step_row open_cell init_name find_name read_name put_name digits
 own_name_written_run ss1 p1 = rw p1 refl
 
 own_name_written : goes 1 [] [] (own_name_written_script (stmt_trees own_name_written_body_1)) ≡ ([], Threw 23
@@ -139,7 +139,7 @@ own_name_read_script ss1 = (declare_ 0 Let ((named 4 (codes "g"), (Some (functio
 
 own_name_read_run : (ss1 : List Stmt) → body_of (statements ss1) ≡ known_block own_name_read_body_1 → runs 1 [] []
     (own_name_read_script ss1) ≡ ((branched 36 1 ∷ []), Done)
-unfolding count turn new_object call_builtin construct get_row bracket_row set_row test_row logical_row binary_row unary_row step_row open_cell init_name find_name digits
+unfolding count turn new_object call_builtin construct get_row bracket_row set_row test_row logical_row binary_row unary_row step_row open_cell init_name find_name read_name put_name digits
 own_name_read_run ss1 p1 = rw p1 refl
 
 own_name_read : goes 1 [] [] (own_name_read_script (stmt_trees own_name_read_body_1)) ≡ ((branched 36 1 ∷ []), Done)
@@ -152,7 +152,7 @@ read_too_early_script = (express 0 (leaf (Expr-F.Name (named 0 (codes "a")))) �
     None) ∷ []) ∷ [])
 
 read_too_early : goes 10 [] [] read_too_early_script ≡ ([], Threw 0 (thrown.Named fault.ReferenceError))
-unfolding count turn new_object call_builtin construct get_row bracket_row set_row test_row logical_row binary_row unary_row step_row open_cell init_name find_name digits
+unfolding count turn new_object call_builtin construct get_row bracket_row set_row test_row logical_row binary_row unary_row step_row open_cell init_name find_name read_name put_name digits
 read_too_early = path_is 10 [] [] read_too_early_script refl
 
 -- a = 1; let a;
@@ -161,7 +161,7 @@ written_too_early_script = (express 0 (assign 0 2 None (to_name (named 0 (codes 
     declare_ 7 Let ((named 11 (codes "a"), None) ∷ []) ∷ [])
 
 written_too_early : goes 10 [] [] written_too_early_script ≡ ([], Threw 0 (thrown.Named fault.ReferenceError))
-unfolding count turn new_object call_builtin construct get_row bracket_row set_row test_row logical_row binary_row unary_row step_row open_cell init_name find_name digits
+unfolding count turn new_object call_builtin construct get_row bracket_row set_row test_row logical_row binary_row unary_row step_row open_cell init_name find_name read_name put_name digits
 written_too_early = path_is 10 [] [] written_too_early_script refl
 
 -- typeof a; let a;
@@ -170,7 +170,7 @@ typeof_too_early_script = (express 0 (unary 0 un.TypeOf (leaf (Expr-F.Name (name
     ((named 14 (codes "a"), None) ∷ []) ∷ [])
 
 typeof_too_early : goes 10 [] [] typeof_too_early_script ≡ ([], Threw 7 (thrown.Named fault.ReferenceError))
-unfolding count turn new_object call_builtin construct get_row bracket_row set_row test_row logical_row binary_row unary_row step_row open_cell init_name find_name digits
+unfolding count turn new_object call_builtin construct get_row bracket_row set_row test_row logical_row binary_row unary_row step_row open_cell init_name find_name read_name put_name digits
 typeof_too_early = path_is 10 [] [] typeof_too_early_script refl
 
 -- let a = a;
@@ -179,7 +179,7 @@ its_own_value_script = (declare_ 0 Let ((named 4 (codes "a"), (Some (leaf (Expr-
     ∷ [])
 
 its_own_value : goes 10 [] [] its_own_value_script ≡ ([], Threw 8 (thrown.Named fault.ReferenceError))
-unfolding count turn new_object call_builtin construct get_row bracket_row set_row test_row logical_row binary_row unary_row step_row open_cell init_name find_name digits
+unfolding count turn new_object call_builtin construct get_row bracket_row set_row test_row logical_row binary_row unary_row step_row open_cell init_name find_name read_name put_name digits
 its_own_value = path_is 10 [] [] its_own_value_script refl
 
 -- try { null.x; } catch (e) { if (e.name === "TypeError") {} }
@@ -190,7 +190,7 @@ error_name_script = (try_ 0 (express 6 (call (leaf (Expr-F.Null 6)) (get (dot 10
     []) ∷ []))) None ∷ [])
 
 error_name : goes 10 [] [] error_name_script ≡ ((branched 28 1 ∷ []), Done)
-unfolding count turn new_object call_builtin construct get_row bracket_row set_row test_row logical_row binary_row unary_row step_row open_cell init_name find_name digits
+unfolding count turn new_object call_builtin construct get_row bracket_row set_row test_row logical_row binary_row unary_row step_row open_cell init_name find_name read_name put_name digits
 error_name = path_is 10 [] [] error_name_script refl
 
 -- let d; try { null.x; } catch (e) { d = e; } try { null.x; } catch (e) { if (e === d) {} if (d === d) {} }
@@ -204,5 +204,5 @@ two_errors_script = (declare_ 0 Let ((named 4 (codes "d"), None) ∷ []) ∷ try
     op.Equal (leaf (Expr-F.Name (named 98 (codes "d")))) ∷ [])) (braces 101 []) ∷ []) ∷ []))) None ∷ [])
 
 two_errors : goes 10 [] [] two_errors_script ≡ ((branched 72 0 ∷ branched 88 1 ∷ []), Done)
-unfolding count turn new_object call_builtin construct get_row bracket_row set_row test_row logical_row binary_row unary_row step_row open_cell init_name find_name digits
+unfolding count turn new_object call_builtin construct get_row bracket_row set_row test_row logical_row binary_row unary_row step_row open_cell init_name find_name read_name put_name digits
 two_errors = path_is 10 [] [] two_errors_script refl

@@ -33,40 +33,40 @@ Guarding why.Builtin = Unit {0}
 Guarding _ = ⊥
 
 -- at which sites, and for which reasons, exits stand
-abbrev pub Places : Type 1
-Places = ℕ → Why → Type 0
+abbrev pub Sites : Type 1
+Sites = ℕ → Why → Type 0
 
-abbrev pub nowhere : Places
+abbrev pub nowhere : Sites
 nowhere site w = ⊥
 
-abbrev pub only : ℕ → Places
+abbrev pub only : ℕ → Sites
 only at site w = site ≡ at
 
 -- a guard's exit, before the run puts in its numbers
-abbrev pub ExitIn : Places → End → Type 0
+abbrev pub ExitIn : Sites → End → Type 0
 ExitIn S (Left site w turns ended) = (turns ≡ 0) × (ended ≡ 0) × Guarding w × S site w
 ExitIn S _ = ⊥
 
-abbrev pub StopIn : Places → End → Type 0
+abbrev pub StopIn : Sites → End → Type 0
 StopIn S (Left site w turns ended) = (turns ≡ 0) × (ended ≡ 0) × (Guarding w → S site w)
 StopIn S _ = Unit {0}
 
-abbrev pub EndIn : Places → Answer → Type 0
+abbrev pub EndIn : Sites → Answer → Type 0
 EndIn S (ends x) = StopIn S x
 EndIn S _ = Unit {0}
 
-abbrev pub ItemsIn : Places → List Item → Type 0
+abbrev pub ItemsIn : Sites → List Item → Type 0
 ItemsIn S [] = Unit {0}
 ItemsIn S (passed x ∷ items) = ExitIn S x × ItemsIn S items
 ItemsIn S (made e ∷ items) = ItemsIn S items
 
 -- its exits are at these places, and apart
-pub record RowApart (S : Places) (r : Row) : Type 0 where
+pub record RowApart (S : Sites) (r : Row) : Type 0 where
   pub items : ItemsIn S r.0
   pub end : EndIn S r.1
   pub apart : Apart r.0 r.1
 
 -- a write has no guard so far: it is done, or comes to an answer
-abbrev pub WrittenIn : Places → Written → Type 0
+abbrev pub WrittenIn : Sites → Written → Type 0
 WrittenIn S (Ok objects) = Unit {0}
 WrittenIn S (Err a) = EndIn S a

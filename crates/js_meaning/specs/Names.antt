@@ -95,7 +95,7 @@ read_found site name (supplied x) st = done st (given x)
 read_found site name listed st = read_builtin site name (builtin_value name) st
 read_found site name nowhere st = leaves site why.Name st
 
-abbrev pub read_name : ℕ → Text → Scope → Place → Outcome
+unfoldable pub read_name : ℕ → Text → Scope → Place → Outcome
 read_name site name scope st = read_found site name (find_name scope name st) st
 
 -- ---- writing (9.1.1.1.5, SetMutableBinding): an input may not be assigned, a built-in name leaves the profile
@@ -118,5 +118,5 @@ put_found site x (supplied old) st = throw_error site kind.TypeError st
 put_found site x listed st = leaves site why.Builtin st
 put_found site x nowhere st = leaves site why.Name st
 
-abbrev pub put_name : ℕ → Text → Scope → Value → Place → Outcome
+unfoldable pub put_name : ℕ → Text → Scope → Value → Place → Outcome
 put_name site name scope x st = put_found site x (find_name scope name st) st

@@ -1,5 +1,8 @@
--- What counts as a node, and where: each expression and each statement, at its first token. A chain of operators counts
--- one for each operator, and a call its first part and each suffix; an `if` counts for each of its arms (this project's own).
+-- What counts as a node, and where (this project's own rule): each expression and each statement, at its first token. A chain
+-- of operators counts one for each operator, at its mark, when it is reached; a call counts its first part and each suffix, at
+-- the `.`, `[` or `(`; an `if` counts each of its arms that is reached, at the word; a target counts as a name, or as its base
+-- and a suffix; a member that is a name alone counts as that name. Parentheses count nothing, nor do the braces of a
+-- function and of `try`, nor a declaration in the head of a `for`.
 use Rattle.std.specs.Prelude.{ℕ, Option, Some, None}
 use Rattle.js_ast.specs.declared.expression.Expr.TheOpen.{Expr-F, Stmt-F}
 use Rattle.js_meaning.specs.Values.{Place}

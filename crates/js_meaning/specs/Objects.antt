@@ -5,7 +5,7 @@ use Rattle.path_core.specs.declared.path.ErrorName.{ErrorName}
 use Rattle.path_core.specs.declared.path.ErrorName.TheVariants as kind
 use Rattle.path_core.specs.declared.path.Why.TheVariants as why
 use Rattle.js_meaning.specs.Values.{Text, Value, undefined, null, truth, int, nan, text, object, Code, Class, plain, array, matched, function, regexp, error, Object, Place}
-use Rattle.js_meaning.specs.Running.{Reference, callee, intrinsic, static, method, Answer, comes_to, raises, ends, Row, Outcome, done, given, leaves, leaving, giving, ending, entry_limit, answer}
+use Rattle.js_meaning.specs.Running.{Reference, callee, intrinsic, static, method, Answer, comes_to, raises, ends, Row, Outcome, done, given, leaves, leaving, giving, ending, entry_limit, answer, play}
 use Rattle.js_meaning.specs.Builtins.{among, is_static, is_method, array_methods, pattern_methods}
 
 -- ---- keys
@@ -185,6 +185,13 @@ unfoldable pub bracket_row : ℕ → Bool → Reference → Value → List Objec
 bracket_row site is_static (callee x this) key objects = bracket_method site x (static_key is_static key) objects
 bracket_row site is_static (intrinsic at name) key objects = bracket_static site name (static_key is_static key)
 bracket_row site is_static _ key objects = ending site why.Builtin
+
+abbrev pub get_bracket : ℕ → Bool → Reference → Value → Place → Outcome
+get_bracket site is_static r key st = play (bracket_row site is_static r key st.objects) st
+
+-- a property in brackets is written: of a value, by the key's value
+unfoldable pub set_bracket : ℕ → Bool → Value → Value → Value → Place → Outcome
+set_bracket site is_static base key x st = leaves site why.Key st
 
 -- ---- writing (7.3.4, Set)
 

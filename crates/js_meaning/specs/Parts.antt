@@ -15,11 +15,11 @@ use Rattle.js_ast.specs.declared.parts.Key.{Key}
 use Rattle.js_ast.specs.declared.parts.Key.TheVariants as key
 use Rattle.js_ast.specs.declared.parts.Member.{Member}
 use Rattle.js_ast.specs.declared.parts.Member.TheVariants as member
-use Rattle.js_meaning.specs.Values.{Text, Value, object, Scope, Code, function, Place}
+use Rattle.js_meaning.specs.Values.{Text, Value, undefined, object, Scope, Code, function, Place}
 use Rattle.js_meaning.specs.Running.{Reference, callee, intrinsic, static, method, Outcome, done, bind, given, refers, leaves, count, new_object, play, on_value, on_reference}
 use Rattle.js_meaning.specs.Conversions.{to_boolean}
 use Rattle.js_meaning.specs.Builtins.{Calls, call_builtin}
-use Rattle.js_meaning.specs.Objects.{property_row, bracket_row, get_row, set_row, written, add_property, add_item}
+use Rattle.js_meaning.specs.Objects.{property_row, get_bracket, set_bracket, get_row, set_row, written, add_property, add_item}
 use Rattle.js_meaning.specs.Operators.{test_row, logical_row, goes_on, binary_row, is_join, step_row, old_number}
 use Rattle.js_meaning.specs.Names.{read_name, put_name}
 
@@ -117,24 +117,26 @@ chain run (suffix.Access (access.Property site name) ∷ ss) calls k scope r st 
         bind (play (property_row site r name st.objects) st) (on_reference (chain run ss calls k scope))))
 chain run (suffix.Access (access.Index site is_static e) ∷ ss) calls k scope r st =
     settled r st (λ st. count site st (λ st. bind (run e calls k scope st) (on_value (λ y st.
-        bind (play (bracket_row site is_static r y st.objects) st) (on_reference (chain run ss calls k scope))))))
+        bind (get_bracket site is_static r y st) (on_reference (chain run ss calls k scope))))))
 chain run (suffix.Call site arguments ∷ ss) calls k scope r st =
     count site st (gather run arguments calls k scope [] (λ xs st.
         bind (invoke calls site r xs st) (on_reference (chain run ss calls k scope))))
 
 -- ---- targets (13.15.1, simple assignment targets)
 
--- what a target has come to (6.2.5, the Reference Record): a name at its site, or a value and a static key
+-- what a target has come to (6.2.5, the Reference Record): a name at its site; a value and a static key; a value and a key in
+-- brackets, which leaves the profile so far
 pub data Aim : Type 0 where
   name_aim : ℕ → Text → Aim
   property_aim : ℕ → Value → Text → Aim
+  bracket_aim : ℕ → Bool → Value → Value → Aim
 
 -- a property of a built-in name leaves the profile
 abbrev pub aim_property : ℕ → Text → Reference → Place → (Aim → Place → Outcome) → Outcome
 aim_property site name (callee x this) st go = go (property_aim site x name) st
 aim_property site name r st go = leaves site why.Builtin st
 
--- and so does a property in brackets, by its key's value
+-- a property in brackets leaves it as soon as its key has a value
 abbrev pub aim_bracket : ℕ → Bool → Reference → Value → Place → (Aim → Place → Outcome) → Outcome
 aim_bracket site is_static (callee x this) y st go = leaves site why.Key st
 aim_bracket site is_static r y st go = leaves site why.Builtin st
@@ -153,11 +155,13 @@ aim run (target.Access base a) calls k scope go st = bind (run base calls k scop
 abbrev pub get_aim : Scope → Aim → Place → Outcome
 get_aim scope (name_aim site name) st = read_name site name scope st
 get_aim scope (property_aim site base name) st = play (get_row site base name st.objects) st
+get_aim scope (bracket_aim site is_static base y) st = get_bracket site is_static (callee base undefined) y st
 
 -- PutValue (6.2.5.6); the value is that of the whole
 abbrev pub put_aim : Scope → Aim → Value → Place → Outcome
 put_aim scope (name_aim site name) x st = put_name site name scope x st
 put_aim scope (property_aim site base name) x st = written (set_row site base name x st.objects) st (λ st. done st (given x))
+put_aim scope (bracket_aim site is_static base y) x st = set_bracket site is_static base y x st
 
 -- ---- assignment (13.15.2)
 
