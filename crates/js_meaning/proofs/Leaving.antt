@@ -1,0 +1,430 @@
+-- Examples of runs that leave the profile.
+use Rattle.std.proofs.Common.{◌≡◌, ℕ, pos, negsuc, true, false, List, [], ◌∷◌, codes, Some, None, refl}
+use Rattle.std.specs.Fmt.{digits}
+use Rattle.path_core.specs.declared.path.ErrorName.TheVariants as fault
+use Rattle.path_core.specs.declared.path.InputValue.TheVariants as input
+use Rattle.path_core.specs.declared.path.Thrown.TheVariants as thrown
+use Rattle.path_core.specs.declared.path.Budget.TheVariants as budget
+use Rattle.path_core.specs.declared.path.Why.TheVariants as why
+use Rattle.path_core.specs.declared.path.End.TheVariants.{Done, Threw, Left, Cut}
+use Rattle.js_ast.specs.declared.operators.BinaryOp.TheVariants as op
+use Rattle.js_ast.specs.declared.operators.UnaryOp.TheVariants as un
+use Rattle.js_ast.specs.declared.operators.StepOp.TheVariants.{Increment, Decrement}
+use Rattle.js_ast.specs.declared.operators.LogicalOp.TheVariants as logic
+use Rattle.js_ast.specs.declared.operators.DeclarationKind.TheVariants.{Let, Const}
+use Rattle.js_ast.specs.declared.parts.Key.TheVariants as key
+use Rattle.js_ast.specs.declared.expression.Expr.TheOpen.{Expr-F, Stmt-F}
+use Rattle.js_meaning.specs.Running.{count, turn, new_object}
+use Rattle.js_meaning.specs.Builtins.{call_builtin, construct}
+use Rattle.js_meaning.specs.Objects.{get_row, bracket_row, set_row}
+use Rattle.js_meaning.specs.Operators.{test_row, logical_row, binary_row, unary_row, step_row}
+use Rattle.js_meaning.specs.Names.{open_cell, init_name, find_name, read_name, put_name}
+use Rattle.js_meaning.proofs.Known.{Known, named, leaf, array, new_, unary, conditional, link, binary, logical, valued, short, object, dot, bracket, get, call_, call, to_name, to_property, step, assign}
+use Rattle.js_meaning.proofs.KnownStatements.{KnownStmt, stmt_trees, known_block, known_value, body_known, value_known, function_, arrow_block, still, braces, express, throw_, return_, declare_}
+use Rattle.js_meaning.proofs.KnownForms.{when, if_, if_else, while_, do_, for_of_, no_head, value_head, declare_head, for_, try_}
+use Rattle.js_meaning.proofs.Runs.{whole, branched, goes, uses, runs, path_is, steps_are}
+use Rattle.js_ast.specs.declared.expression.Expr.{Expr}
+use Rattle.js_ast.specs.declared.statement.Stmt.{Stmt}
+use Rattle.js_meaning.specs.Values.{statements, expression}
+use Rattle.js_meaning.specs.Meaning.{body_of}
+
+-- 9007199254740991 + 1;
+abbrev sum_script : List KnownStmt
+sum_script = (express 0 (binary (leaf (Expr-F.Number 0 9007199254740991)) (link 17 op.Add (leaf (Expr-F.Number 19 1))
+    ∷ [])) ∷ [])
+
+sum : goes 10 [] [] sum_script ≡ ([], Left 17 why.Range 0 0)
+unfolding count turn new_object call_builtin construct get_row bracket_row set_row test_row logical_row binary_row unary_row step_row open_cell init_name find_name read_name put_name digits
+sum = path_is 10 [] [] sum_script refl
+
+sum_steps : uses 10 [] [] sum_script ≡ 4
+unfolding count turn new_object call_builtin construct get_row bracket_row set_row test_row logical_row binary_row unary_row step_row open_cell init_name find_name read_name put_name digits
+sum_steps = steps_are 10 [] [] sum_script refl
+
+-- -9007199254740991 - 1;
+abbrev difference_script : List KnownStmt
+difference_script = (express 0 (binary (unary 0 un.Minus (leaf (Expr-F.Number 1 9007199254740991))) (link 18
+    op.Subtract (leaf (Expr-F.Number 20 1)) ∷ [])) ∷ [])
+
+difference : goes 10 [] [] difference_script ≡ ([], Left 18 why.Range 0 0)
+unfolding count turn new_object call_builtin construct get_row bracket_row set_row test_row logical_row binary_row unary_row step_row open_cell init_name find_name read_name put_name digits
+difference = path_is 10 [] [] difference_script refl
+
+-- 9007199254740991 * 2;
+abbrev product_script : List KnownStmt
+product_script = (express 0 (binary (leaf (Expr-F.Number 0 9007199254740991)) (link 17 op.Multiply (leaf
+    (Expr-F.Number 19 2)) ∷ [])) ∷ [])
+
+product : goes 10 [] [] product_script ≡ ([], Left 17 why.Range 0 0)
+unfolding count turn new_object call_builtin construct get_row bracket_row set_row test_row logical_row binary_row unary_row step_row open_cell init_name find_name read_name put_name digits
+product = path_is 10 [] [] product_script refl
+
+-- let m = 9007199254740991; m++;
+abbrev step_up_script : List KnownStmt
+step_up_script = (declare_ 0 Let ((named 4 (codes "m"), (Some (leaf (Expr-F.Number 8 9007199254740991)))) ∷ []) ∷
+    express 26 (step 26 27 Increment false (to_name (named 26 (codes "m")))) ∷ [])
+
+step_up : goes 10 [] [] step_up_script ≡ ([], Left 27 why.Range 0 0)
+unfolding count turn new_object call_builtin construct get_row bracket_row set_row test_row logical_row binary_row unary_row step_row open_cell init_name find_name read_name put_name digits
+step_up = path_is 10 [] [] step_up_script refl
+
+-- 1 / 0;
+abbrev by_zero_script : List KnownStmt
+by_zero_script = (express 0 (binary (leaf (Expr-F.Number 0 1)) (link 2 op.Divide (leaf (Expr-F.Number 4 0)) ∷ [])) ∷
+    [])
+
+by_zero : goes 10 [] [] by_zero_script ≡ ([], Left 2 why.Divide 0 0)
+unfolding count turn new_object call_builtin construct get_row bracket_row set_row test_row logical_row binary_row unary_row step_row open_cell init_name find_name read_name put_name digits
+by_zero = path_is 10 [] [] by_zero_script refl
+
+-- 7 / 2;
+abbrev not_whole_script : List KnownStmt
+not_whole_script = (express 0 (binary (leaf (Expr-F.Number 0 7)) (link 2 op.Divide (leaf (Expr-F.Number 4 2)) ∷ [])) ∷
+    [])
+
+not_whole : goes 10 [] [] not_whole_script ≡ ([], Left 2 why.Divide 0 0)
+unfolding count turn new_object call_builtin construct get_row bracket_row set_row test_row logical_row binary_row unary_row step_row open_cell init_name find_name read_name put_name digits
+not_whole = path_is 10 [] [] not_whole_script refl
+
+-- "a" - 1;
+abbrev from_text_script : List KnownStmt
+from_text_script = (express 0 (binary (leaf (Expr-F.Text 0 (codes "a"))) (link 4 op.Subtract (leaf (Expr-F.Number 6
+    1)) ∷ [])) ∷ [])
+
+from_text : goes 10 [] [] from_text_script ≡ ([], Left 4 why.Convert 0 0)
+unfolding count turn new_object call_builtin construct get_row bracket_row set_row test_row logical_row binary_row unary_row step_row open_cell init_name find_name read_name put_name digits
+from_text = path_is 10 [] [] from_text_script refl
+
+-- ({}) + 1;
+abbrev from_object_script : List KnownStmt
+from_object_script = (express 0 (binary (object 1 []) (link 5 op.Add (leaf (Expr-F.Number 7 1)) ∷ [])) ∷ [])
+
+from_object : goes 10 [] [] from_object_script ≡ ([], Left 5 why.Convert 0 0)
+unfolding count turn new_object call_builtin construct get_row bracket_row set_row test_row logical_row binary_row unary_row step_row open_cell init_name find_name read_name put_name digits
+from_object = path_is 10 [] [] from_object_script refl
+
+-- "a" < 1;
+abbrev order_of_kinds_script : List KnownStmt
+order_of_kinds_script = (express 0 (binary (leaf (Expr-F.Text 0 (codes "a"))) (link 4 op.Less (leaf (Expr-F.Number 6
+    1)) ∷ [])) ∷ [])
+
+order_of_kinds : goes 10 [] [] order_of_kinds_script ≡ ([], Left 4 why.Convert 0 0)
+unfolding count turn new_object call_builtin construct get_row bracket_row set_row test_row logical_row binary_row unary_row step_row open_cell init_name find_name read_name put_name digits
+order_of_kinds = path_is 10 [] [] order_of_kinds_script refl
+
+-- let o = {}; o.toString;
+abbrev inherited_key_script : List KnownStmt
+inherited_key_script = (declare_ 0 Let ((named 4 (codes "o"), (Some (object 8 []))) ∷ []) ∷ express 12 (call (leaf
+    (Expr-F.Name (named 12 (codes "o")))) (get (dot 13 (codes "toString")) ∷ [])) ∷ [])
+
+inherited_key : goes 10 [] [] inherited_key_script ≡ ([], Left 13 why.Inherited 0 0)
+unfolding count turn new_object call_builtin construct get_row bracket_row set_row test_row logical_row binary_row unary_row step_row open_cell init_name find_name read_name put_name digits
+inherited_key = path_is 10 [] [] inherited_key_script refl
+
+-- "a".foo;
+abbrev inherited_of_text_script : List KnownStmt
+inherited_of_text_script = (express 0 (call (leaf (Expr-F.Text 0 (codes "a"))) (get (dot 3 (codes "foo")) ∷ [])) ∷ [])
+
+inherited_of_text : goes 10 [] [] inherited_of_text_script ≡ ([], Left 3 why.Inherited 0 0)
+unfolding count turn new_object call_builtin construct get_row bracket_row set_row test_row logical_row binary_row unary_row step_row open_cell init_name find_name read_name put_name digits
+inherited_of_text = path_is 10 [] [] inherited_of_text_script refl
+
+-- (() => 1).name;
+abbrev inherited_of_function_value_1 : Known
+inherited_of_function_value_1 = leaf (Expr-F.Number 7 1)
+
+abbrev inherited_of_function_script : Expr → List KnownStmt
+inherited_of_function_script t1 = (express 0 (call (leaf (Expr-F.Arrow 1 [] t1)) (get (dot 9 (codes "name")) ∷ [])) ∷
+    [])
+
+inherited_of_function : goes 10 [] [] (inherited_of_function_script inherited_of_function_value_1.tree) ≡ ([], Left 9
+    why.Inherited 0 0)
+unfolding count turn new_object call_builtin construct get_row bracket_row set_row test_row logical_row binary_row unary_row step_row open_cell init_name find_name read_name put_name digits
+inherited_of_function = path_is 10 [] [] (inherited_of_function_script inherited_of_function_value_1.tree) refl
+
+-- let o = {}; o.__proto__ = 1;
+abbrev prototype_written_script : List KnownStmt
+prototype_written_script = (declare_ 0 Let ((named 4 (codes "o"), (Some (object 8 []))) ∷ []) ∷ express 12 (assign 12
+    24 None (to_property (leaf (Expr-F.Name (named 12 (codes "o")))) (dot 13 (codes "__proto__"))) (leaf
+    (Expr-F.Number 26 1))) ∷ [])
+
+prototype_written : goes 10 [] [] prototype_written_script ≡ ([], Left 13 why.Inherited 0 0)
+unfolding count turn new_object call_builtin construct get_row bracket_row set_row test_row logical_row binary_row unary_row step_row open_cell init_name find_name read_name put_name digits
+prototype_written = path_is 10 [] [] prototype_written_script refl
+
+-- let a = []; a.foo = 1;
+abbrev array_name_written_script : List KnownStmt
+array_name_written_script = (declare_ 0 Let ((named 4 (codes "a"), (Some (array 8 []))) ∷ []) ∷ express 12 (assign 12
+    18 None (to_property (leaf (Expr-F.Name (named 12 (codes "a")))) (dot 13 (codes "foo"))) (leaf (Expr-F.Number 20
+    1))) ∷ [])
+
+array_name_written : goes 10 [] [] array_name_written_script ≡ ([], Left 13 why.Inherited 0 0)
+unfolding count turn new_object call_builtin construct get_row bracket_row set_row test_row logical_row binary_row unary_row step_row open_cell init_name find_name read_name put_name digits
+array_name_written = path_is 10 [] [] array_name_written_script refl
+
+-- try { null.x; } catch (e) { e.message; }
+abbrev engine_message_script : List KnownStmt
+engine_message_script = (try_ 0 (express 6 (call (leaf (Expr-F.Null 6)) (get (dot 10 (codes "x")) ∷ [])) ∷ []) (Some
+    ((Some (named 23 (codes "e"))), (express 28 (call (leaf (Expr-F.Name (named 28 (codes "e")))) (get (dot 29 (codes
+    "message")) ∷ [])) ∷ []))) None ∷ [])
+
+engine_message : goes 10 [] [] engine_message_script ≡ ([], Left 29 why.Message 0 0)
+unfolding count turn new_object call_builtin construct get_row bracket_row set_row test_row logical_row binary_row unary_row step_row open_cell init_name find_name read_name put_name digits
+engine_message = path_is 10 [] [] engine_message_script refl
+
+-- let a = [1]; a[0];
+abbrev in_brackets_script : List KnownStmt
+in_brackets_script = (declare_ 0 Let ((named 4 (codes "a"), (Some (array 8 (leaf (Expr-F.Number 9 1) ∷ [])))) ∷ []) ∷
+    express 13 (call (leaf (Expr-F.Name (named 13 (codes "a")))) (get (bracket 14 true (leaf (Expr-F.Number 15 0))) ∷
+    [])) ∷ [])
+
+in_brackets : goes 10 [] [] in_brackets_script ≡ ([], Left 14 why.Key 0 0)
+unfolding count turn new_object call_builtin construct get_row bracket_row set_row test_row logical_row binary_row unary_row step_row open_cell init_name find_name read_name put_name digits
+in_brackets = path_is 10 [] [] in_brackets_script refl
+
+-- let o = {}; o["a"] = foo;
+abbrev brackets_written_script : List KnownStmt
+brackets_written_script = (declare_ 0 Let ((named 4 (codes "o"), (Some (object 8 []))) ∷ []) ∷ express 12 (assign 12
+    19 None (to_property (leaf (Expr-F.Name (named 12 (codes "o")))) (bracket 13 true (leaf (Expr-F.Text 14 (codes
+    "a"))))) (leaf (Expr-F.Name (named 21 (codes "foo"))))) ∷ [])
+
+brackets_written : goes 10 [] [] brackets_written_script ≡ ([], Left 13 why.Key 0 0)
+unfolding count turn new_object call_builtin construct get_row bracket_row set_row test_row logical_row binary_row unary_row step_row open_cell init_name find_name read_name put_name digits
+brackets_written = path_is 10 [] [] brackets_written_script refl
+
+-- let o = {}; o[foo];
+abbrev key_first_script : List KnownStmt
+key_first_script = (declare_ 0 Let ((named 4 (codes "o"), (Some (object 8 []))) ∷ []) ∷ express 12 (call (leaf
+    (Expr-F.Name (named 12 (codes "o")))) (get (bracket 13 false (leaf (Expr-F.Name (named 14 (codes "foo"))))) ∷ []))
+    ∷ [])
+
+key_first : goes 10 [] [] key_first_script ≡ ([], Left 14 why.Name 0 0)
+unfolding count turn new_object call_builtin construct get_row bracket_row set_row test_row logical_row binary_row unary_row step_row open_cell init_name find_name read_name put_name digits
+key_first = path_is 10 [] [] key_first_script refl
+
+-- "a".length = 1;
+abbrev length_written_script : List KnownStmt
+length_written_script = (express 0 (assign 0 11 None (to_property (leaf (Expr-F.Text 0 (codes "a"))) (dot 3 (codes
+    "length"))) (leaf (Expr-F.Number 13 1))) ∷ [])
+
+length_written : goes 10 [] [] length_written_script ≡ ([], Left 3 why.Set 0 0)
+unfolding count turn new_object call_builtin construct get_row bracket_row set_row test_row logical_row binary_row unary_row step_row open_cell init_name find_name read_name put_name digits
+length_written = path_is 10 [] [] length_written_script refl
+
+-- let a = []; a.push = 1;
+abbrev method_written_script : List KnownStmt
+method_written_script = (declare_ 0 Let ((named 4 (codes "a"), (Some (array 8 []))) ∷ []) ∷ express 12 (assign 12 19
+    None (to_property (leaf (Expr-F.Name (named 12 (codes "a")))) (dot 13 (codes "push"))) (leaf (Expr-F.Number 21
+    1))) ∷ [])
+
+method_written : goes 10 [] [] method_written_script ≡ ([], Left 13 why.Set 0 0)
+unfolding count turn new_object call_builtin construct get_row bracket_row set_row test_row logical_row binary_row unary_row step_row open_cell init_name find_name read_name put_name digits
+method_written = path_is 10 [] [] method_written_script refl
+
+-- parseInt("1", 10);
+abbrev function_called_script : List KnownStmt
+function_called_script = (express 0 (call (leaf (Expr-F.Name (named 0 (codes "parseInt")))) (call_ 8 (leaf
+    (Expr-F.Text 9 (codes "1")) ∷ leaf (Expr-F.Number 14 10) ∷ []) ∷ [])) ∷ [])
+
+function_called : goes 10 [] [] function_called_script ≡ ([], Left 8 why.Builtin 0 0)
+unfolding count turn new_object call_builtin construct get_row bracket_row set_row test_row logical_row binary_row unary_row step_row open_cell init_name find_name read_name put_name digits
+function_called = path_is 10 [] [] function_called_script refl
+
+-- parseInt;
+abbrev function_alone_script : List KnownStmt
+function_alone_script = (express 0 (leaf (Expr-F.Name (named 0 (codes "parseInt")))) ∷ [])
+
+function_alone : goes 10 [] [] function_alone_script ≡ ([], Left 0 why.Builtin 0 0)
+unfolding count turn new_object call_builtin construct get_row bracket_row set_row test_row logical_row binary_row unary_row step_row open_cell init_name find_name read_name put_name digits
+function_alone = path_is 10 [] [] function_alone_script refl
+
+-- (parseInt)("1", 10);
+abbrev function_in_parentheses_script : List KnownStmt
+function_in_parentheses_script = (express 0 (call (leaf (Expr-F.Name (named 1 (codes "parseInt")))) (call_ 10 (leaf
+    (Expr-F.Text 11 (codes "1")) ∷ leaf (Expr-F.Number 16 10) ∷ []) ∷ [])) ∷ [])
+
+function_in_parentheses : goes 10 [] [] function_in_parentheses_script ≡ ([], Left 10 why.Builtin 0 0)
+unfolding count turn new_object call_builtin construct get_row bracket_row set_row test_row logical_row binary_row unary_row step_row open_cell init_name find_name read_name put_name digits
+function_in_parentheses = path_is 10 [] [] function_in_parentheses_script refl
+
+-- Object.keys({});
+abbrev listed_called_script : List KnownStmt
+listed_called_script = (express 0 (call (leaf (Expr-F.Name (named 0 (codes "Object")))) (get (dot 6 (codes "keys")) ∷
+    call_ 11 (object 12 [] ∷ []) ∷ [])) ∷ [])
+
+listed_called : goes 10 [] [] listed_called_script ≡ ([], Left 11 why.Builtin 0 0)
+unfolding count turn new_object call_builtin construct get_row bracket_row set_row test_row logical_row binary_row unary_row step_row open_cell init_name find_name read_name put_name digits
+listed_called = path_is 10 [] [] listed_called_script refl
+
+-- Object.keys;
+abbrev listed_alone_script : List KnownStmt
+listed_alone_script = (express 0 (call (leaf (Expr-F.Name (named 0 (codes "Object")))) (get (dot 6 (codes "keys")) ∷
+    [])) ∷ [])
+
+listed_alone : goes 10 [] [] listed_alone_script ≡ ([], Left 6 why.Builtin 0 0)
+unfolding count turn new_object call_builtin construct get_row bracket_row set_row test_row logical_row binary_row unary_row step_row open_cell init_name find_name read_name put_name digits
+listed_alone = path_is 10 [] [] listed_alone_script refl
+
+-- Object.values(foo);
+abbrev not_listed_script : List KnownStmt
+not_listed_script = (express 0 (call (leaf (Expr-F.Name (named 0 (codes "Object")))) (get (dot 6 (codes "values")) ∷
+    call_ 13 (leaf (Expr-F.Name (named 14 (codes "foo"))) ∷ []) ∷ [])) ∷ [])
+
+not_listed : goes 10 [] [] not_listed_script ≡ ([], Left 6 why.Builtin 0 0)
+unfolding count turn new_object call_builtin construct get_row bracket_row set_row test_row logical_row binary_row unary_row step_row open_cell init_name find_name read_name put_name digits
+not_listed = path_is 10 [] [] not_listed_script refl
+
+-- Object[1];
+abbrev bracket_of_builtin_script : List KnownStmt
+bracket_of_builtin_script = (express 0 (call (leaf (Expr-F.Name (named 0 (codes "Object")))) (get (bracket 6 true
+    (leaf (Expr-F.Number 7 1))) ∷ [])) ∷ [])
+
+bracket_of_builtin : goes 10 [] [] bracket_of_builtin_script ≡ ([], Left 6 why.Builtin 0 0)
+unfolding count turn new_object call_builtin construct get_row bracket_row set_row test_row logical_row binary_row unary_row step_row open_cell init_name find_name read_name put_name digits
+bracket_of_builtin = path_is 10 [] [] bracket_of_builtin_script refl
+
+-- "a".charAt(0);
+abbrev method_called_script : List KnownStmt
+method_called_script = (express 0 (call (leaf (Expr-F.Text 0 (codes "a"))) (get (dot 3 (codes "charAt")) ∷ call_ 10
+    (leaf (Expr-F.Number 11 0) ∷ []) ∷ [])) ∷ [])
+
+method_called : goes 10 [] [] method_called_script ≡ ([], Left 10 why.Builtin 0 0)
+unfolding count turn new_object call_builtin construct get_row bracket_row set_row test_row logical_row binary_row unary_row step_row open_cell init_name find_name read_name put_name digits
+method_called = path_is 10 [] [] method_called_script refl
+
+-- "a".charAt(foo);
+abbrev method_after_arguments_script : List KnownStmt
+method_after_arguments_script = (express 0 (call (leaf (Expr-F.Text 0 (codes "a"))) (get (dot 3 (codes "charAt")) ∷
+    call_ 10 (leaf (Expr-F.Name (named 11 (codes "foo"))) ∷ []) ∷ [])) ∷ [])
+
+method_after_arguments : goes 10 [] [] method_after_arguments_script ≡ ([], Left 11 why.Name 0 0)
+unfolding count turn new_object call_builtin construct get_row bracket_row set_row test_row logical_row binary_row unary_row step_row open_cell init_name find_name read_name put_name digits
+method_after_arguments = path_is 10 [] [] method_after_arguments_script refl
+
+-- "a".charAt;
+abbrev method_alone_script : List KnownStmt
+method_alone_script = (express 0 (call (leaf (Expr-F.Text 0 (codes "a"))) (get (dot 3 (codes "charAt")) ∷ [])) ∷ [])
+
+method_alone : goes 10 [] [] method_alone_script ≡ ([], Left 3 why.Builtin 0 0)
+unfolding count turn new_object call_builtin construct get_row bracket_row set_row test_row logical_row binary_row unary_row step_row open_cell init_name find_name read_name put_name digits
+method_alone = path_is 10 [] [] method_alone_script refl
+
+-- "a"["charAt"](0);
+abbrev method_in_brackets_script : List KnownStmt
+method_in_brackets_script = (express 0 (call (leaf (Expr-F.Text 0 (codes "a"))) (get (bracket 3 true (leaf
+    (Expr-F.Text 4 (codes "charAt")))) ∷ call_ 13 (leaf (Expr-F.Number 14 0) ∷ []) ∷ [])) ∷ [])
+
+method_in_brackets : goes 10 [] [] method_in_brackets_script ≡ ([], Left 13 why.Builtin 0 0)
+unfolding count turn new_object call_builtin construct get_row bracket_row set_row test_row logical_row binary_row unary_row step_row open_cell init_name find_name read_name put_name digits
+method_in_brackets = path_is 10 [] [] method_in_brackets_script refl
+
+-- "a".charAt[foo];
+abbrev method_then_key_script : List KnownStmt
+method_then_key_script = (express 0 (call (leaf (Expr-F.Text 0 (codes "a"))) (get (dot 3 (codes "charAt")) ∷ get
+    (bracket 10 false (leaf (Expr-F.Name (named 11 (codes "foo"))))) ∷ [])) ∷ [])
+
+method_then_key : goes 10 [] [] method_then_key_script ≡ ([], Left 3 why.Builtin 0 0)
+unfolding count turn new_object call_builtin construct get_row bracket_row set_row test_row logical_row binary_row unary_row step_row open_cell init_name find_name read_name put_name digits
+method_then_key = path_is 10 [] [] method_then_key_script refl
+
+-- undefined = 1;
+abbrev undefined_written_script : List KnownStmt
+undefined_written_script = (express 0 (assign 0 10 None (to_name (named 0 (codes "undefined"))) (leaf (Expr-F.Number
+    12 1))) ∷ [])
+
+undefined_written : goes 10 [] [] undefined_written_script ≡ ([], Left 0 why.Builtin 0 0)
+unfolding count turn new_object call_builtin construct get_row bracket_row set_row test_row logical_row binary_row unary_row step_row open_cell init_name find_name read_name put_name digits
+undefined_written = path_is 10 [] [] undefined_written_script refl
+
+-- NaN++;
+abbrev nan_stepped_script : List KnownStmt
+nan_stepped_script = (express 0 (step 0 3 Increment false (to_name (named 0 (codes "NaN")))) ∷ [])
+
+nan_stepped : goes 10 [] [] nan_stepped_script ≡ ([], Left 0 why.Builtin 0 0)
+unfolding count turn new_object call_builtin construct get_row bracket_row set_row test_row logical_row binary_row unary_row step_row open_cell init_name find_name read_name put_name digits
+nan_stepped = path_is 10 [] [] nan_stepped_script refl
+
+-- Object.x = foo;
+abbrev builtin_property_written_script : List KnownStmt
+builtin_property_written_script = (express 0 (assign 0 9 None (to_property (leaf (Expr-F.Name (named 0 (codes
+    "Object")))) (dot 6 (codes "x"))) (leaf (Expr-F.Name (named 11 (codes "foo"))))) ∷ [])
+
+builtin_property_written : goes 10 [] [] builtin_property_written_script ≡ ([], Left 6 why.Builtin 0 0)
+unfolding count turn new_object call_builtin construct get_row bracket_row set_row test_row logical_row binary_row unary_row step_row open_cell init_name find_name read_name put_name digits
+builtin_property_written = path_is 10 [] [] builtin_property_written_script refl
+
+-- new Error("x");
+abbrev error_made_script : List KnownStmt
+error_made_script = (express 0 (new_ 0 (named 4 (codes "Error")) (leaf (Expr-F.Text 10 (codes "x")) ∷ [])) ∷ [])
+
+error_made : goes 10 [] [] error_made_script ≡ ([], Left 0 why.Builtin 0 0)
+unfolding count turn new_object call_builtin construct get_row bracket_row set_row test_row logical_row binary_row unary_row step_row open_cell init_name find_name read_name put_name digits
+error_made = path_is 10 [] [] error_made_script refl
+
+-- foo;
+abbrev unknown_script : List KnownStmt
+unknown_script = (express 0 (leaf (Expr-F.Name (named 0 (codes "foo")))) ∷ [])
+
+unknown : goes 10 [] [] unknown_script ≡ ([], Left 0 why.Name 0 0)
+unfolding count turn new_object call_builtin construct get_row bracket_row set_row test_row logical_row binary_row unary_row step_row open_cell init_name find_name read_name put_name digits
+unknown = path_is 10 [] [] unknown_script refl
+
+-- typeof foo;
+abbrev unknown_type_script : List KnownStmt
+unknown_type_script = (express 0 (unary 0 un.TypeOf (leaf (Expr-F.Name (named 7 (codes "foo"))))) ∷ [])
+
+unknown_type : goes 10 [] [] unknown_type_script ≡ ([], Left 7 why.Name 0 0)
+unfolding count turn new_object call_builtin construct get_row bracket_row set_row test_row logical_row binary_row unary_row step_row open_cell init_name find_name read_name put_name digits
+unknown_type = path_is 10 [] [] unknown_type_script refl
+
+-- foo = bar;
+abbrev unknown_written_script : List KnownStmt
+unknown_written_script = (express 0 (assign 0 4 None (to_name (named 0 (codes "foo"))) (leaf (Expr-F.Name (named 6
+    (codes "bar"))))) ∷ [])
+
+unknown_written : goes 10 [] [] unknown_written_script ≡ ([], Left 6 why.Name 0 0)
+unfolding count turn new_object call_builtin construct get_row bracket_row set_row test_row logical_row binary_row unary_row step_row open_cell init_name find_name read_name put_name digits
+unknown_written = path_is 10 [] [] unknown_written_script refl
+
+-- foo = 1;
+abbrev unknown_set_script : List KnownStmt
+unknown_set_script = (express 0 (assign 0 4 None (to_name (named 0 (codes "foo"))) (leaf (Expr-F.Number 6 1))) ∷ [])
+
+unknown_set : goes 10 [] [] unknown_set_script ≡ ([], Left 0 why.Name 0 0)
+unfolding count turn new_object call_builtin construct get_row bracket_row set_row test_row logical_row binary_row unary_row step_row open_cell init_name find_name read_name put_name digits
+unknown_set = path_is 10 [] [] unknown_set_script refl
+
+-- let F = 1; new F(foo);
+abbrev not_new_script : List KnownStmt
+not_new_script = (declare_ 0 Let ((named 4 (codes "F"), (Some (leaf (Expr-F.Number 8 1)))) ∷ []) ∷ express 11 (new_ 11
+    (named 15 (codes "F")) (leaf (Expr-F.Name (named 17 (codes "foo"))) ∷ [])) ∷ [])
+
+not_new : goes 10 [] [] not_new_script ≡ ([], Left 11 why.New 0 0)
+unfolding count turn new_object call_builtin construct get_row bracket_row set_row test_row logical_row binary_row unary_row step_row open_cell init_name find_name read_name put_name digits
+not_new = path_is 10 [] [] not_new_script refl
+
+-- new Object(foo);
+abbrev builtin_not_new_script : List KnownStmt
+builtin_not_new_script = (express 0 (new_ 0 (named 4 (codes "Object")) (leaf (Expr-F.Name (named 11 (codes "foo"))) ∷
+    [])) ∷ [])
+
+builtin_not_new : goes 10 [] [] builtin_not_new_script ≡ ([], Left 0 why.New 0 0)
+unfolding count turn new_object call_builtin construct get_row bracket_row set_row test_row logical_row binary_row unary_row step_row open_cell init_name find_name read_name put_name digits
+builtin_not_new = path_is 10 [] [] builtin_not_new_script refl
+
+-- new foo();
+abbrev unknown_new_script : List KnownStmt
+unknown_new_script = (express 0 (new_ 0 (named 4 (codes "foo")) []) ∷ [])
+
+unknown_new : goes 10 [] [] unknown_new_script ≡ ([], Left 4 why.Name 0 0)
+unfolding count turn new_object call_builtin construct get_row bracket_row set_row test_row logical_row binary_row unary_row step_row open_cell init_name find_name read_name put_name digits
+unknown_new = path_is 10 [] [] unknown_new_script refl
+
+-- new F(); let F;
+abbrev early_new_script : List KnownStmt
+early_new_script = (express 0 (new_ 0 (named 4 (codes "F")) []) ∷ declare_ 9 Let ((named 13 (codes "F"), None) ∷ []) ∷
+    [])
+
+early_new : goes 10 [] [] early_new_script ≡ ([], Threw 4 (thrown.Named fault.ReferenceError))
+unfolding count turn new_object call_builtin construct get_row bracket_row set_row test_row logical_row binary_row unary_row step_row open_cell init_name find_name read_name put_name digits
+early_new = path_is 10 [] [] early_new_script refl

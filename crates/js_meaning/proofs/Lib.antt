@@ -1,0 +1,14 @@
+pub mod Opens
+pub mod Known
+pub mod KnownStatements
+pub mod KnownForms
+pub mod Runs
+pub mod Rows
+pub mod Statements
+pub mod Throws
+pub mod Leaving
+pub mod Expressions
+pub mod Calls
+pub mod Bindings
+pub mod Limits
+pub mod RowsApart

@@ -1,0 +1,15 @@
+pub mod Numbers
+pub mod Values
+pub mod Running
+pub mod Conversions
+pub mod Builtins
+pub mod Objects
+pub mod Operators
+pub mod Names
+pub mod Parts
+pub mod Blocks
+pub mod Loops
+pub mod Nodes
+pub mod Meaning
+pub mod Path
+pub mod Apart

@@ -1,0 +1,40 @@
+//! Laws of the rows in `specs/`: between two of its events a row passes no exit twice, and it ends at none that it has
+//! passed. Each is the contract of a function that does nothing; crates above cite them.
+
+ghost use Rattle.std.specs.Prelude.{ℕ, Bool, List};
+ghost use Rattle.js_ast.specs.declared.operators.BinaryOp.{BinaryOp as SpecBinaryOp};
+ghost use Rattle.js_ast.specs.declared.operators.LogicalOp.{LogicalOp as SpecLogicalOp};
+ghost use Rattle.js_ast.specs.declared.operators.StepOp.{StepOp as SpecStepOp};
+ghost use Rattle.js_ast.specs.declared.operators.UnaryOp.{UnaryOp as SpecUnaryOp};
+ghost use Rattle.js_meaning.specs.Values.{Text, Value, Object};
+ghost use Rattle.js_meaning.specs.Running.{Reference};
+ghost use Rattle.js_meaning.specs.Objects.{get_row, property_row, bracket_row, set_row, add_property, add_item};
+ghost use Rattle.js_meaning.specs.Operators.{test_row, logical_row, binary_row, unary_row, step_row};
+ghost use Rattle.js_meaning.specs.Apart.{RowApart, WrittenIn, nowhere, only};
+
+/// A test and the left side of `&&`, `||` and `??` pass no exit.
+pub fn tests_apart()
+    ensures test { (site : ℕ) (x : Value) → RowApart nowhere (test_row site x) }
+    ensures logical { (op : SpecLogicalOp) (site : ℕ) (x : Value) → RowApart nowhere (logical_row op site x) }
+{}
+
+/// The exits of an operator are at its mark.
+pub fn operators_apart()
+    ensures binary { (op : SpecBinaryOp) (site : ℕ) (x : Value) (y : Value) → RowApart (only site) (binary_row op site x y) }
+    ensures unary { (op : SpecUnaryOp) (site : ℕ) (x : Value) (objects : List Object) → RowApart (only site) (unary_row op site x objects) }
+    ensures step { (op : SpecStepOp) (site : ℕ) (x : Value) → RowApart (only site) (step_row op site x) }
+{}
+
+/// The exits of a property that is read are at its `.` or `[`.
+pub fn properties_apart()
+    ensures get { (site : ℕ) (x : Value) (key : Text) (objects : List Object) → RowApart (only site) (get_row site x key objects) }
+    ensures property { (site : ℕ) (r : Reference) (key : Text) (objects : List Object) → RowApart (only site) (property_row site r key objects) }
+    ensures bracket { (site : ℕ) (is_literal : Bool) (r : Reference) (key : Value) (objects : List Object) → RowApart (only site) (bracket_row site is_literal r key objects) }
+{}
+
+/// The ends of a property that is written, and of an entry that is added, are at their site.
+pub fn writes_apart()
+    ensures set { (site : ℕ) (base : Value) (key : Text) (x : Value) (objects : List Object) → WrittenIn (only site) (set_row site base key x objects) }
+    ensures property { (site : ℕ) (objects : List Object) (o : ℕ) (key : Text) (x : Value) → WrittenIn (only site) (add_property site objects o key x) }
+    ensures item { (site : ℕ) (objects : List Object) (o : ℕ) (x : Value) → WrittenIn (only site) (add_item site objects o x) }
+{}
