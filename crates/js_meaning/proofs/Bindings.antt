@@ -1,16 +1,16 @@
 -- Worked examples of bindings in the head of a `for`: each round has fresh ones, and the first ones are there before it.
-use Rattle.std.proofs.Common.{◌≡◌, ℕ, ℤ, pos, true, false, List, [], ◌∷◌, codes, Option, Some, None, refl, ap, ◌∙◌}
+use Rattle.std.proofs.Common.{◌≡◌, ℕ, pos, true, false, List, [], ◌∷◌, codes, Option, Some, None, refl, ap, ◌∙◌}
 use Rattle.std.specs.Fmt.{digits}
 use Rattle.path_core.specs.declared.path.Event.{Event}
 use Rattle.path_core.specs.declared.path.Thrown.TheVariants as thrown
 use Rattle.path_core.specs.declared.path.End.{End}
 use Rattle.path_core.specs.declared.path.End.TheVariants.{Threw}
 use Rattle.js_ast.specs.declared.operators.BinaryOp.TheVariants as op
-use Rattle.js_ast.specs.declared.operators.StepOp.TheVariants.{Increment, Decrement}
-use Rattle.js_ast.specs.declared.operators.DeclarationKind.TheVariants.{Let, Const}
-use Rattle.js_ast.specs.declared.expression.Expr.TheOpen.{Expr-F, Stmt-F}
+use Rattle.js_ast.specs.declared.operators.StepOp.TheVariants.{Increment}
+use Rattle.js_ast.specs.declared.operators.DeclarationKind.TheVariants.{Let}
+use Rattle.js_ast.specs.declared.expression.Expr.TheOpen.{Expr-F}
 use Rattle.js_ast.specs.declared.statement.Stmt.{Stmt}
-use Rattle.js_meaning.specs.Values.{Value, undefined, int, object as object_number, Scope, Binding, Object, statements, function, plain, Place}
+use Rattle.js_meaning.specs.Values.{Value, undefined, int, object as object_number, Scope, Binding, Object, statements, function, Place}
 use Rattle.js_meaning.specs.Running.{made, throws, Outcome, after, bind, count, turn, new_object, on_value, on_normal}
 use Rattle.js_meaning.specs.Builtins.{call_builtin, construct}
 use Rattle.js_meaning.specs.Objects.{get_row, bracket_row, set_row}
@@ -37,8 +37,16 @@ an_arrow ss k = record { class = function (arrow_code [] (statements ss) (record
 -- behind one round and two tests, with these bindings and objects
 abbrev behind_round : List Binding → List Object → ℕ → ℕ → ℕ → ℕ → Place
 behind_round cells objects events turns ended nodes = record {
-    run = record { inputs = []; turns = 2; answers = [] }; cells = cells; objects = objects;
-    events = events; turns = turns; ended = ended; nodes = nodes; joins = 0; execs = 0 }
+  run = record { inputs = []; turns = 2; answers = [] };
+  cells = cells;
+  objects = objects;
+  events = events;
+  turns = turns;
+  ended = ended;
+  nodes = nodes;
+  joins = 0;
+  execs = 0;
+}
 
 -- what comes behind the last call
 abbrev behind_call : Outcome → List Event × End
@@ -56,9 +64,9 @@ fresh_call = call (leaf (Expr-F.Name (named 72 (codes "f")))) (call_ 73 [] ∷ [
 abbrev fresh : List Stmt → List KnownStmt
 fresh ss = declare_ 0 Let ((named 4 (codes "f"), None) ∷ [])
     ∷ for_ 7 (declare_head Let ((named 16 (codes "i"), Some (leaf (Expr-F.Number 20 0))) ∷ []))
-        (Some (binary (leaf (Expr-F.Name (named 23 (codes "i")))) (link 25 op.Less (leaf (Expr-F.Number 27 1)) ∷ [])))
-        (Some (step 30 31 Increment false (to_name (named 30 (codes "i")))))
-        (express 35 (assign 35 37 None (to_name (named 35 (codes "f"))) (arrow_block 39 [] ss)))
+    (Some (binary (leaf (Expr-F.Name (named 23 (codes "i")))) (link 25 op.Less (leaf (Expr-F.Number 27 1)) ∷ [])))
+    (Some (step 30 31 Increment false (to_name (named 30 (codes "i")))))
+    (express 35 (assign 35 37 None (to_name (named 35 (codes "f"))) (arrow_block 39 [] ss)))
     ∷ express 72 fresh_call ∷ []
 
 -- f, the first i, the i of the round, and the i behind it
@@ -90,10 +98,10 @@ first_call = call (leaf (Expr-F.Name (named 90 (codes "g")))) (call_ 91 [] ∷ [
 abbrev first : List Stmt → List KnownStmt
 first ss = declare_ 0 Let ((named 4 (codes "g"), None) ∷ [])
     ∷ for_ 7 (declare_head Let ((named 16 (codes "i"), Some (leaf (Expr-F.Number 20 0))) ∷ (named 23 (codes "f"), Some (arrow_block 27 [] ss)) ∷ []))
-        (Some (binary (leaf (Expr-F.Name (named 60 (codes "i")))) (link 62 op.Less (leaf (Expr-F.Number 64 1)) ∷ [])))
-        (Some (step 67 68 Increment false (to_name (named 67 (codes "i")))))
-        (braces 72 (express 74 (assign 74 76 None (to_name (named 74 (codes "i"))) (leaf (Expr-F.Number 78 5)))
-            ∷ express 81 (assign 81 83 None (to_name (named 81 (codes "g"))) (leaf (Expr-F.Name (named 85 (codes "f"))))) ∷ []))
+    (Some (binary (leaf (Expr-F.Name (named 60 (codes "i")))) (link 62 op.Less (leaf (Expr-F.Number 64 1)) ∷ [])))
+    (Some (step 67 68 Increment false (to_name (named 67 (codes "i")))))
+    (braces 72 (express 74 (assign 74 76 None (to_name (named 74 (codes "i"))) (leaf (Expr-F.Number 78 5)))
+    ∷ express 81 (assign 81 83 None (to_name (named 81 (codes "g"))) (leaf (Expr-F.Name (named 85 (codes "f"))))) ∷ []))
     ∷ express 90 first_call ∷ []
 
 -- g; the first i and f; those of the round; and those behind it

@@ -1,5 +1,5 @@
 -- Worked examples of calls within calls: the outcome of each call is a step of its own.
-use Rattle.std.proofs.Common.{◌≡◌, ℕ, ℤ, pos, negsuc, true, false, List, [], ◌∷◌, codes, Some, None, refl, ap, ◌∙◌}
+use Rattle.std.proofs.Common.{◌≡◌, ℕ, ℤ, negsuc, true, List, [], ◌∷◌, codes, Some, None, refl, ap, ◌∙◌}
 use Rattle.std.specs.Fmt.{digits}
 use Rattle.path_core.specs.declared.bounds.Declared.{Declared}
 use Rattle.path_core.specs.declared.path.InputValue.TheVariants as input
@@ -8,10 +8,10 @@ use Rattle.path_core.specs.declared.path.Event.{Event}
 use Rattle.path_core.specs.declared.path.End.{End}
 use Rattle.path_core.specs.declared.path.End.TheVariants.{Done, Left}
 use Rattle.js_ast.specs.declared.operators.BinaryOp.TheVariants as op
-use Rattle.js_ast.specs.declared.operators.DeclarationKind.TheVariants.{Let, Const}
+use Rattle.js_ast.specs.declared.operators.DeclarationKind.TheVariants.{Let}
 use Rattle.js_ast.specs.declared.parts.Identifier.{Identifier}
 use Rattle.js_ast.specs.declared.expression.Expr.{Expr}
-use Rattle.js_ast.specs.declared.expression.Expr.TheOpen.{Expr-F, Stmt-F}
+use Rattle.js_ast.specs.declared.expression.Expr.TheOpen.{Expr-F}
 use Rattle.js_meaning.specs.Values.{Value, undefined, int, object as object_number, Scope, Binding, expression, function, Place}
 use Rattle.js_meaning.specs.Running.{passed, refers, callee, Outcome, bind, count, turn, new_object, on_value, on_reference, on_normal}
 use Rattle.js_meaning.specs.Builtins.{call_builtin, construct}
@@ -44,11 +44,17 @@ minus_one = binary (leaf (Expr-F.Name (named 13 (codes "x")))) (link 15 op.Subtr
 -- behind the first declaration, where `t` isn't initialised, with so many turns, ended activations and nodes
 abbrev between : Expr → ℤ → List Binding → ℕ → ℕ → ℕ → Place
 between t n further turns ended nodes = record {
-    run = record { inputs = (codes "n", int n) ∷ []; turns = 2; answers = [] };
-    cells = record { name = codes "f"; is_mutable = true; outer = None; value = Some (object_number 0) }
-        ∷ record { name = codes "t"; is_mutable = true; outer = Some 0; value = None } ∷ further;
-    objects = record { class = function (arrow_code parameters (expression t) inner_scope); properties = []; items = [] } ∷ [];
-    events = 0; turns = turns; ended = ended; nodes = nodes; joins = 0; execs = 0 }
+  run = record { inputs = (codes "n", int n) ∷ []; turns = 2; answers = [] };
+  cells = record { name = codes "f"; is_mutable = true; outer = None; value = Some (object_number 0) }
+      ∷ record { name = codes "t"; is_mutable = true; outer = Some 0; value = None } ∷ further;
+  objects = record { class = function (arrow_code parameters (expression t) inner_scope); properties = []; items = [] } ∷ [];
+  events = 0;
+  turns = turns;
+  ended = ended;
+  nodes = nodes;
+  joins = 0;
+  execs = 0;
+}
 
 abbrev bound_x : ℤ → Binding
 bound_x n = record { name = codes "x"; is_mutable = true; outer = Some 1; value = Some (int n) }
@@ -78,7 +84,6 @@ Opens t = body_of (expression t) ≡ known_value minus_one
 once_next : (t : Expr) → Opens t → once.does (calls_in 3) 2 inner_scope (between t (negsuc 9007199254740989) [] 2 0 5) ≡ once_gives t (negsuc 9007199254740989) (negsuc 9007199254740990)
 unfolding count turn new_object call_builtin construct get_row bracket_row set_row test_row logical_row binary_row unary_row step_row open_cell init_name find_name read_name put_name digits
 once_next t p = rw p refl
-
 
 once_third : (t : Expr) → Opens t → once.does (calls_in 3) 2 inner_scope (between t (negsuc 9007199254740988) [] 2 0 5) ≡ once_gives t (negsuc 9007199254740988) (negsuc 9007199254740989)
 unfolding count turn new_object call_builtin construct get_row bracket_row set_row test_row logical_row binary_row unary_row step_row open_cell init_name find_name read_name put_name digits

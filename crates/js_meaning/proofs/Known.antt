@@ -1,5 +1,5 @@
 -- Trees of expressions for examples, each beside what it does: one layer after another is opened, and what is left computes.
-use Rattle.std.proofs.Common.{◌≡◌, ℕ, List, [], ◌∷◌, map, Bool, Option, Some, None, refl, ap, ◌∙◌}
+use Rattle.std.proofs.Common.{◌≡◌, ℕ, List, [], ◌∷◌, map, Bool, Option, refl, ap, ◌∙◌}
 use Rattle.js_ast.specs.declared.operators.BinaryOp.{BinaryOp}
 use Rattle.js_ast.specs.declared.operators.LogicalOp.{LogicalOp}
 use Rattle.js_ast.specs.declared.operators.UnaryOp.{UnaryOp}
@@ -56,25 +56,37 @@ same_pairs [] = refl
 same_pairs (k ∷ ks) = ap {B = List (Expr × Meaning)} (λ p. p ∷ map with_expr (trees ks)) (same k) ∙ ap (λ ps. pair k ∷ ps) (same_pairs ks)
 
 abbrev pub array : ℕ → List Known → Known
-array site ks = record { tree = roll-Expr (Expr-F.Array site (trees ks)); does = _;
-    is = opens_expr (Expr-F.Array site (trees ks)) ∙ ap {B = Meaning} (λ ps. of_expr (Expr-F.Array site ps)) (same_pairs ks) }
+array site ks = record {
+  tree = roll-Expr (Expr-F.Array site (trees ks));
+  does = _;
+  is = opens_expr (Expr-F.Array site (trees ks)) ∙ ap {B = Meaning} (λ ps. of_expr (Expr-F.Array site ps)) (same_pairs ks);
+}
 
 abbrev pub new_ : ℕ → Identifier → List Known → Known
-new_ site name ks = record { tree = roll-Expr (Expr-F.New site name (trees ks)); does = _;
-    is = opens_expr (Expr-F.New site name (trees ks)) ∙ ap {B = Meaning} (λ ps. of_expr (Expr-F.New site name ps)) (same_pairs ks) }
+new_ site name ks = record {
+  tree = roll-Expr (Expr-F.New site name (trees ks));
+  does = _;
+  is = opens_expr (Expr-F.New site name (trees ks)) ∙ ap {B = Meaning} (λ ps. of_expr (Expr-F.New site name ps)) (same_pairs ks);
+}
 
 -- ---- operators
 
 abbrev pub unary : ℕ → UnaryOp → Known → Known
-unary site op k = record { tree = roll-Expr (Expr-F.Unary site op k.tree); does = _;
-    is = opens_expr (Expr-F.Unary site op k.tree) ∙ ap {B = Meaning} (λ p. of_expr (Expr-F.Unary site op p)) (same k) }
+unary site op k = record {
+  tree = roll-Expr (Expr-F.Unary site op k.tree);
+  does = _;
+  is = opens_expr (Expr-F.Unary site op k.tree) ∙ ap {B = Meaning} (λ p. of_expr (Expr-F.Unary site op p)) (same k);
+}
 
 abbrev pub conditional : ℕ → ℕ → Known → Known → Known → Known
-conditional start site t x y = record { tree = roll-Expr (Expr-F.Conditional start site t.tree x.tree y.tree); does = _;
-    is = opens_expr (Expr-F.Conditional start site t.tree x.tree y.tree)
-        ∙ ap {B = Meaning} (λ p. of_expr (Expr-F.Conditional start site p (with_expr x.tree) (with_expr y.tree))) (same t)
-        ∙ ap {B = Meaning} (λ p. of_expr (Expr-F.Conditional start site (pair t) p (with_expr y.tree))) (same x)
-        ∙ ap {B = Meaning} (λ p. of_expr (Expr-F.Conditional start site (pair t) (pair x) p)) (same y) }
+conditional start site t x y = record {
+  tree = roll-Expr (Expr-F.Conditional start site t.tree x.tree y.tree);
+  does = _;
+  is = opens_expr (Expr-F.Conditional start site t.tree x.tree y.tree)
+      ∙ ap {B = Meaning} (λ p. of_expr (Expr-F.Conditional start site p (with_expr x.tree) (with_expr y.tree))) (same t)
+      ∙ ap {B = Meaning} (λ p. of_expr (Expr-F.Conditional start site (pair t) p (with_expr y.tree))) (same x)
+      ∙ ap {B = Meaning} (λ p. of_expr (Expr-F.Conditional start site (pair t) (pair x) p)) (same y);
+}
 
 pub record KnownLink (O : Type 0) : Type 0 where
   pub site : ℕ

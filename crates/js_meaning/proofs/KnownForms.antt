@@ -1,5 +1,5 @@
 -- Trees of branches, loops and `try` for examples, each beside what it does.
-use Rattle.std.proofs.Common.{◌≡◌, ℕ, List, [], ◌∷◌, ◌++◌, map, Bool, Option, Some, None, refl, ap, ◌∙◌}
+use Rattle.std.proofs.Common.{◌≡◌, ℕ, List, [], ◌∷◌, map, Option, Some, None, refl, ap, ◌∙◌}
 use Rattle.std.specs.Option.{option_map}
 use Rattle.js_ast.specs.declared.operators.DeclarationKind.{DeclarationKind}
 use Rattle.js_ast.specs.declared.parts.Identifier.{Identifier}
@@ -11,7 +11,7 @@ use Rattle.js_ast.specs.declared.expression.Expr.{Expr}
 use Rattle.js_ast.specs.declared.expression.Expr.TheOpen.{Stmt-F, Arm-F}
 use Rattle.js_ast.specs.declared.statement.Stmt.{Stmt, roll-Stmt, map-Stmt}
 use Rattle.js_ast.specs.declared.statement.Arm.{Arm, roll-Arm}
-use Rattle.js_meaning.specs.Values.{Value, Scope, Place}
+use Rattle.js_meaning.specs.Values.{Scope, Place}
 use Rattle.js_meaning.specs.Running.{Outcome, Completion, given, refers, normal, breaks, continues, returns, throws, stops, done, bind, count}
 use Rattle.js_meaning.specs.Builtins.{Calls}
 use Rattle.js_meaning.specs.Parts.{Meaning}
@@ -32,10 +32,13 @@ abbrev pub arm_layer : {E S A : Type 0} → ℕ → E → S → Arm-F E S A
 arm_layer site test consequent = record { site = site; test = test; consequent = consequent }
 
 abbrev pub when : ℕ → Known → KnownStmt → KnownArm
-when site k s = record { tree = roll-Arm (arm_layer site k.tree (stmt_tree s)); does = of_arm (arm_layer site (pair k) (stmt_pair s));
-    is = opens_arm (arm_layer site k.tree (stmt_tree s))
-        ∙ ap {B = Arms} (λ p. of_arm (arm_layer site p (with_stmt (stmt_tree s)))) (same k)
-        ∙ ap {B = Arms} (λ p. of_arm (arm_layer site (pair k) p)) (same_stmt s) }
+when site k s = record {
+  tree = roll-Arm (arm_layer site k.tree (stmt_tree s));
+  does = of_arm (arm_layer site (pair k) (stmt_pair s));
+  is = opens_arm (arm_layer site k.tree (stmt_tree s))
+      ∙ ap {B = Arms} (λ p. of_arm (arm_layer site p (with_stmt (stmt_tree s)))) (same k)
+      ∙ ap {B = Arms} (λ p. of_arm (arm_layer site (pair k) p)) (same_stmt s);
+}
 
 abbrev pub arm_trees : List KnownArm → List Arm
 arm_trees [] = []
@@ -52,34 +55,49 @@ same_arms (a ∷ arms) =
     ∙ ap {B = List (Arm × Arms)} (λ ps. (a.tree, a.does) ∷ ps) (same_arms arms)
 
 abbrev pub if_ : List KnownArm → KnownStmt
-if_ arms = record { layer = Stmt-F.If (arm_trees arms) None; does = of_stmt (Stmt-F.If (arm_pairs arms) None);
-    is = opens_stmt (Stmt-F.If (arm_trees arms) None) ∙ ap {B = Meaning} (λ ps. of_stmt (Stmt-F.If ps None)) (same_arms arms) }
+if_ arms = record {
+  layer = Stmt-F.If (arm_trees arms) None;
+  does = of_stmt (Stmt-F.If (arm_pairs arms) None);
+  is = opens_stmt (Stmt-F.If (arm_trees arms) None) ∙ ap {B = Meaning} (λ ps. of_stmt (Stmt-F.If ps None)) (same_arms arms);
+}
 
 abbrev pub if_else : List KnownArm → KnownStmt → KnownStmt
-if_else arms s = record { layer = Stmt-F.If (arm_trees arms) (Some (stmt_tree s)); does = of_stmt (Stmt-F.If (arm_pairs arms) (Some (stmt_pair s)));
-    is = opens_stmt (Stmt-F.If (arm_trees arms) (Some (stmt_tree s)))
-        ∙ ap {B = Meaning} (λ ps. of_stmt (Stmt-F.If ps (Some (with_stmt (stmt_tree s))))) (same_arms arms)
-        ∙ ap {B = Meaning} (λ p. of_stmt (Stmt-F.If (arm_pairs arms) (Some p))) (same_stmt s) }
+if_else arms s = record {
+  layer = Stmt-F.If (arm_trees arms) (Some (stmt_tree s));
+  does = of_stmt (Stmt-F.If (arm_pairs arms) (Some (stmt_pair s)));
+  is = opens_stmt (Stmt-F.If (arm_trees arms) (Some (stmt_tree s)))
+      ∙ ap {B = Meaning} (λ ps. of_stmt (Stmt-F.If ps (Some (with_stmt (stmt_tree s))))) (same_arms arms)
+      ∙ ap {B = Meaning} (λ p. of_stmt (Stmt-F.If (arm_pairs arms) (Some p))) (same_stmt s);
+}
 
 -- ---- loops
 
 abbrev pub while_ : ℕ → Known → KnownStmt → KnownStmt
-while_ site k s = record { layer = Stmt-F.While site k.tree (stmt_tree s); does = of_stmt (Stmt-F.While site (pair k) (stmt_pair s));
-    is = opens_stmt (Stmt-F.While site k.tree (stmt_tree s))
-        ∙ ap {B = Meaning} (λ p. of_stmt (Stmt-F.While site p (with_stmt (stmt_tree s)))) (same k)
-        ∙ ap {B = Meaning} (λ p. of_stmt (Stmt-F.While site (pair k) p)) (same_stmt s) }
+while_ site k s = record {
+  layer = Stmt-F.While site k.tree (stmt_tree s);
+  does = of_stmt (Stmt-F.While site (pair k) (stmt_pair s));
+  is = opens_stmt (Stmt-F.While site k.tree (stmt_tree s))
+      ∙ ap {B = Meaning} (λ p. of_stmt (Stmt-F.While site p (with_stmt (stmt_tree s)))) (same k)
+      ∙ ap {B = Meaning} (λ p. of_stmt (Stmt-F.While site (pair k) p)) (same_stmt s);
+}
 
 abbrev pub do_ : ℕ → KnownStmt → ℕ → Known → KnownStmt
-do_ site s at k = record { layer = Stmt-F.Do site (stmt_tree s) at k.tree; does = of_stmt (Stmt-F.Do site (stmt_pair s) at (pair k));
-    is = opens_stmt (Stmt-F.Do site (stmt_tree s) at k.tree)
-        ∙ ap {B = Meaning} (λ p. of_stmt (Stmt-F.Do site p at (with_expr k.tree))) (same_stmt s)
-        ∙ ap {B = Meaning} (λ p. of_stmt (Stmt-F.Do site (stmt_pair s) at p)) (same k) }
+do_ site s at k = record {
+  layer = Stmt-F.Do site (stmt_tree s) at k.tree;
+  does = of_stmt (Stmt-F.Do site (stmt_pair s) at (pair k));
+  is = opens_stmt (Stmt-F.Do site (stmt_tree s) at k.tree)
+      ∙ ap {B = Meaning} (λ p. of_stmt (Stmt-F.Do site p at (with_expr k.tree))) (same_stmt s)
+      ∙ ap {B = Meaning} (λ p. of_stmt (Stmt-F.Do site (stmt_pair s) at p)) (same k);
+}
 
 abbrev pub for_of_ : ℕ → DeclarationKind → Identifier → Known → KnownStmt → KnownStmt
-for_of_ site kind name k s = record { layer = Stmt-F.ForOf site kind name k.tree (stmt_tree s); does = of_stmt (Stmt-F.ForOf site kind name (pair k) (stmt_pair s));
-    is = opens_stmt (Stmt-F.ForOf site kind name k.tree (stmt_tree s))
-        ∙ ap {B = Meaning} (λ p. of_stmt (Stmt-F.ForOf site kind name p (with_stmt (stmt_tree s)))) (same k)
-        ∙ ap {B = Meaning} (λ p. of_stmt (Stmt-F.ForOf site kind name (pair k) p)) (same_stmt s) }
+for_of_ site kind name k s = record {
+  layer = Stmt-F.ForOf site kind name k.tree (stmt_tree s);
+  does = of_stmt (Stmt-F.ForOf site kind name (pair k) (stmt_pair s));
+  is = opens_stmt (Stmt-F.ForOf site kind name k.tree (stmt_tree s))
+      ∙ ap {B = Meaning} (λ p. of_stmt (Stmt-F.ForOf site kind name p (with_stmt (stmt_tree s)))) (same k)
+      ∙ ap {B = Meaning} (λ p. of_stmt (Stmt-F.ForOf site kind name (pair k) p)) (same_stmt s);
+}
 
 -- what stands first in the head of a `for`
 pub data KnownHead : Type 0 where

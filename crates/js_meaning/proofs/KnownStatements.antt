@@ -1,24 +1,19 @@
 -- Trees of statements for examples, each beside what it does.
-use Rattle.std.proofs.Common.{◌≡◌, ℕ, List, [], ◌∷◌, ◌++◌, map, Bool, Option, Some, None, refl, ap, ◌∙◌}
+use Rattle.std.proofs.Common.{◌≡◌, ℕ, List, [], ◌∷◌, ◌++◌, map, Option, Some, None, refl, ap, ◌∙◌}
 use Rattle.std.specs.Option.{option_map}
 use Rattle.js_ast.specs.declared.operators.DeclarationKind.{DeclarationKind}
 use Rattle.js_ast.specs.declared.parts.Identifier.{Identifier}
 use Rattle.js_ast.specs.declared.parts.Declarator.{Declarator}
-use Rattle.js_ast.specs.declared.parts.LoopHead.{LoopHead}
-use Rattle.js_ast.specs.declared.parts.LoopHead.TheVariants as head
-use Rattle.js_ast.specs.declared.parts.Catch.{Catch}
 use Rattle.js_ast.specs.declared.expression.Expr.{Expr, roll-Expr}
-use Rattle.js_ast.specs.declared.expression.Expr.TheOpen.{Expr-F, Stmt-F, Arm-F}
-use Rattle.js_ast.specs.declared.statement.Stmt.{Stmt, roll-Stmt, map-Stmt, out-Stmt, out-roll-Stmt}
-use Rattle.js_ast.specs.declared.statement.Arm.{Arm, roll-Arm}
+use Rattle.js_ast.specs.declared.expression.Expr.TheOpen.{Expr-F, Stmt-F}
+use Rattle.js_ast.specs.declared.statement.Stmt.{Stmt, roll-Stmt, map-Stmt, out-roll-Stmt}
+use Rattle.js_ast.specs.declared.statement.Arm.{Arm}
 use Rattle.js_meaning.specs.Values.{Scope, Place, statements, expression}
-use Rattle.js_meaning.specs.Running.{Outcome, Completion, throws, stops, returns, given, done, bind, count, on_value}
-use Rattle.js_meaning.specs.Builtins.{Calls}
+use Rattle.js_meaning.specs.Running.{Outcome, returns, given, done, bind, count, on_value}
 use Rattle.js_meaning.specs.Parts.{Meaning, make_function}
-use Rattle.js_meaning.specs.Blocks.{Declaration, declared_by, names_of, open_names, start_function, start_functions, enter, run_all, block, arrow_code, function_expression}
-use Rattle.js_meaning.specs.Loops.{kept, open_catch}
-use Rattle.js_meaning.specs.Meaning.{Arms, of_stmt, of_arm, expr, stmt, arm, stmts, block_of, trees_of, body_of, caught, finished}
-use Rattle.js_meaning.proofs.Opens.{with_expr, with_stmt, with_arm, opens_expr, opens_stmt, opens_arm}
+use Rattle.js_meaning.specs.Blocks.{Declaration, declared_by, names_of, open_names, start_function, start_functions, run_all, block, arrow_code, function_expression}
+use Rattle.js_meaning.specs.Meaning.{Arms, of_stmt, expr, stmt, stmts, block_of, trees_of, body_of}
+use Rattle.js_meaning.proofs.Opens.{with_expr, with_stmt, with_arm, opens_expr, opens_stmt}
 use Rattle.js_meaning.proofs.Known.{Known, pair, same}
 
 pub record KnownStmt : Type 0 where
@@ -135,20 +130,32 @@ abbrev pub still : Stmt-F Expr Stmt Arm → KnownStmt
 still f = record { layer = f; does = _; is = opens_stmt f }
 
 abbrev pub braces : ℕ → List KnownStmt → KnownStmt
-braces site ks = record { layer = Stmt-F.Block site (stmt_trees ks); does = (λ calls k scope st. count site st (known_block ks calls k scope));
-    is = opens_stmt (Stmt-F.Block site (stmt_trees ks)) ∙ ap {B = Meaning} (λ (m : Meaning) calls k scope st. count site st (m calls k scope)) (block_known ks) }
+braces site ks = record {
+  layer = Stmt-F.Block site (stmt_trees ks);
+  does = (λ calls k scope st. count site st (known_block ks calls k scope));
+  is = opens_stmt (Stmt-F.Block site (stmt_trees ks)) ∙ ap {B = Meaning} (λ (m : Meaning) calls k scope st. count site st (m calls k scope)) (block_known ks);
+}
 
 abbrev pub express : ℕ → Known → KnownStmt
-express site k = record { layer = Stmt-F.Express site k.tree; does = _;
-    is = opens_stmt (Stmt-F.Express site k.tree) ∙ ap {B = Meaning} (λ p. of_stmt (Stmt-F.Express site p)) (same k) }
+express site k = record {
+  layer = Stmt-F.Express site k.tree;
+  does = _;
+  is = opens_stmt (Stmt-F.Express site k.tree) ∙ ap {B = Meaning} (λ p. of_stmt (Stmt-F.Express site p)) (same k);
+}
 
 abbrev pub throw_ : ℕ → Known → KnownStmt
-throw_ site k = record { layer = Stmt-F.Throw site k.tree; does = _;
-    is = opens_stmt (Stmt-F.Throw site k.tree) ∙ ap {B = Meaning} (λ p. of_stmt (Stmt-F.Throw site p)) (same k) }
+throw_ site k = record {
+  layer = Stmt-F.Throw site k.tree;
+  does = _;
+  is = opens_stmt (Stmt-F.Throw site k.tree) ∙ ap {B = Meaning} (λ p. of_stmt (Stmt-F.Throw site p)) (same k);
+}
 
 abbrev pub return_ : ℕ → Known → KnownStmt
-return_ site k = record { layer = Stmt-F.Return site (Some k.tree); does = _;
-    is = opens_stmt (Stmt-F.Return site (Some k.tree)) ∙ ap {B = Meaning} (λ p. of_stmt (Stmt-F.Return site (Some p))) (same k) }
+return_ site k = record {
+  layer = Stmt-F.Return site (Some k.tree);
+  does = _;
+  is = opens_stmt (Stmt-F.Return site (Some k.tree)) ∙ ap {B = Meaning} (λ p. of_stmt (Stmt-F.Return site (Some p))) (same k);
+}
 
 -- ---- declarations
 

@@ -1,14 +1,14 @@
 -- Examples of the limits, at each of them and one before it; of the order of own keys; and of answers for single execs.
-use Rattle.std.proofs.Common.{◌≡◌, ℕ, ◌+◌, ◌≤◌, nat_lt, nat_le, length, Bool, true, false, List, [], ◌∷◌, ◌++◌, Option, Some, None, Ok, Err, codes, refl}
+use Rattle.std.proofs.Common.{◌≡◌, ℕ, ◌+◌, length, Bool, List, [], ◌∷◌, ◌++◌, Option, Some, None, Ok, codes, refl}
 use Rattle.std.specs.Fmt.{digits}
 use Rattle.path_core.specs.declared.path.Budget.TheVariants as budget
 use Rattle.path_core.specs.declared.path.Why.TheVariants as why
-use Rattle.path_core.specs.declared.path.End.TheVariants.{Left, Cut}
+use Rattle.path_core.specs.declared.path.End.TheVariants.{Cut}
 use Rattle.re_ast.specs.declared.patterns.Pattern.{Pattern}
 use Rattle.re_ast.specs.Execution.{Match, exec}
-use Rattle.js_meaning.specs.Values.{Text, Value, truth, text, Scope, Binding, Class, Object, Answers, Given, Place}
-use Rattle.js_meaning.specs.Running.{passed, made, given, stops, gives, ends, Outcome, done, after, count, turn, new_object, with_object, play, leaving, stamped, next_exec}
-use Rattle.js_meaning.specs.Names.{open_cell, inside, with_binding}
+use Rattle.js_meaning.specs.Values.{Text, Value, truth, text, Scope, Class, Object, Answers, Place}
+use Rattle.js_meaning.specs.Running.{passed, made, given, stops, gives, ends, Outcome, done, count, turn, new_object, play, leaving, stamped, next_exec}
+use Rattle.js_meaning.specs.Names.{open_cell}
 use Rattle.js_meaning.specs.Objects.{own_keys, object_at, add_item, with_item, no_room}
 use Rattle.js_meaning.specs.Operators.{branch_event, branch_row, joined}
 use Rattle.js_meaning.specs.Meaning.{text_literal}

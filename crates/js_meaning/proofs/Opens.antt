@@ -1,9 +1,9 @@
 -- One layer of what a tree does.
-use Rattle.std.proofs.Common.{◌≡◌, ℕ, List, refl, ap, sym, ◌∙◌, map}
-use Rattle.js_ast.specs.declared.expression.Expr.{Expr, para-Expr, para-roll-Expr, roll-Expr, map-Expr, out-Expr, roll-out-Expr}
+use Rattle.std.proofs.Common.{◌≡◌}
+use Rattle.js_ast.specs.declared.expression.Expr.{Expr, para-roll-Expr, roll-Expr, map-Expr}
 use Rattle.js_ast.specs.declared.expression.Expr.TheOpen.{Expr-F, Stmt-F, Arm-F}
-use Rattle.js_ast.specs.declared.statement.Stmt.{Stmt, para-Stmt, para-roll-Stmt, roll-Stmt, map-Stmt, out-Stmt, roll-out-Stmt, out-roll-Stmt}
-use Rattle.js_ast.specs.declared.statement.Arm.{Arm, para-Arm, para-roll-Arm, roll-Arm, map-Arm}
+use Rattle.js_ast.specs.declared.statement.Stmt.{Stmt, para-roll-Stmt, roll-Stmt, map-Stmt}
+use Rattle.js_ast.specs.declared.statement.Arm.{Arm, para-roll-Arm, roll-Arm, map-Arm}
 use Rattle.js_meaning.specs.Parts.{Meaning}
 use Rattle.js_meaning.specs.Meaning.{Arms, of_expr, of_stmt, of_arm, expr, stmt, arm}
 

@@ -1,5 +1,5 @@
 -- Each row passes no exit twice between two of its events, and ends at none that it passed.
-use Rattle.std.proofs.Common.{◌≡◌, ◌⊎◌, ℕ, nat_le, length, Bool, true, false, not, ◌&&◌, ◌||◌, is_some, nat_lt, Ok, List, [], ◌∷◌, ◌++◌, Option, Some, None, unwrap_or, bytes_eq, refl, subst, codes, if◌then◌else◌}
+use Rattle.std.proofs.Common.{ℕ, nat_le, length, Bool, true, false, not, ◌&&◌, ◌||◌, is_some, nat_lt, Ok, List, [], ◌∷◌, ◌++◌, Option, Some, None, unwrap_or, bytes_eq, refl, subst, codes, if◌then◌else◌}
 use Rattle.path_core.specs.declared.path.ErrorName.{ErrorName}
 use Rattle.path_core.specs.declared.path.Why.{Why}
 use Rattle.path_core.specs.declared.path.Why.TheVariants as why
@@ -10,14 +10,14 @@ use Rattle.js_ast.specs.declared.operators.UnaryOp.TheVariants as un
 use Rattle.js_ast.specs.declared.operators.StepOp.{StepOp}
 use Rattle.js_ast.specs.declared.operators.LogicalOp.{LogicalOp}
 use Rattle.js_ast.specs.declared.operators.LogicalOp.TheVariants as logic
-use Rattle.js_meaning.specs.Numbers.{Number, fits, divides, divide, add, subtract, multiply, remainder, negate, less, at_most, to_int32, complement, bitwise, shift_left, shift_right, shift_right_zero}
+use Rattle.js_meaning.specs.Numbers.{Number, fits, divides, divide, add, subtract, multiply, remainder, negate, less, at_most, to_int32, complement}
 use Rattle.js_meaning.specs.Values.{Text, Value, undefined, null, truth, int, nan, text, object, Object, Class, plain, array, matched, function, regexp, error}
-use Rattle.js_meaning.specs.Running.{Item, Answer, gives, comes_to, raises, ends, Row, Reference, callee, intrinsic, static, method, guarded, giving, ending, leaving, text_limit, entry_limit}
-use Rattle.js_meaning.specs.Conversions.{number_value, to_number, to_string, to_boolean}
+use Rattle.js_meaning.specs.Running.{Answer, gives, comes_to, raises, ends, Row, Reference, callee, intrinsic, static, method, guarded, giving, ending, leaving, text_limit, entry_limit}
+use Rattle.js_meaning.specs.Conversions.{number_value, to_number, to_string}
 use Rattle.js_meaning.specs.Builtins.{is_method, is_static, among, array_methods, pattern_methods}
-use Rattle.js_meaning.specs.Objects.{get_row, get_own, get_from, other, own_or_other, own_or_undefined, message_row, error_row, property_row, bracket_row, bracket_method, bracket_static, static_key, look_up, object_at, inherited_names, holds, length_or, may_have_methods, Written, add_property, add_item, set_named, set_in, set_row, with_property, with_item, no_room, set_leaves, inherits}
-use Rattle.js_meaning.specs.Operators.{test_row, logical_row, converted, on_number, on_numbers, in_range, joined, joins, add_row, add_texts, add_numbers, subtract_row, multiply_row, divide_row, remainder_row, order_row, binary_row, unary_row, step_row, stepped, text_less, strictly_equal, type_of}
-use Rattle.js_meaning.specs.Apart.{Sites, nowhere, only, Apart, Guarding, EndIn, RowApart, WrittenIn}
+use Rattle.js_meaning.specs.Objects.{get_row, get_from, other, own_or_other, own_or_undefined, message_row, error_row, property_row, bracket_row, bracket_method, bracket_static, static_key, look_up, object_at, inherited_names, holds, length_or, may_have_methods, Written, add_property, add_item, set_named, set_in, set_row, with_property, with_item, no_room, set_leaves, inherits}
+use Rattle.js_meaning.specs.Operators.{test_row, logical_row, converted, on_number, on_numbers, in_range, joined, joins, add_row, add_texts, add_numbers, subtract_row, multiply_row, divide_row, remainder_row, order_row, binary_row, unary_row, step_row, stepped, text_less}
+use Rattle.js_meaning.specs.Apart.{Sites, nowhere, only, Guarding, EndIn, RowApart, WrittenIn}
 
 -- ---- what rows are made of
 
@@ -158,7 +158,7 @@ message_apart site base false m = holds_apart base (unwrap_or m (text []))
 error_apart : (site : ℕ) (base : Value) (name : ErrorName) (engine : Bool) (key : Text) (ps : List (Text × Value)) → RowApart (only site) (error_row site base name engine key ps)
 error_apart site base name engine key ps =
     chosen_apart (bytes_eq key (codes "name")) _ _ (holds_apart base _)
-        (chosen_apart (bytes_eq key (codes "message")) _ _ (message_apart site base engine (look_up key ps)) (other_apart site base key))
+    (chosen_apart (bytes_eq key (codes "message")) _ _ (message_apart site base engine (look_up key ps)) (other_apart site base key))
 
 from_apart : (site : ℕ) (base : Value) (key : Text) (c : Class) (ps : List (Text × Value)) (items : List Value) → RowApart (only site) (get_from site base key c ps items)
 from_apart site base key plain ps items = plain_apart site base key (look_up key ps)
@@ -211,7 +211,7 @@ chosen_in site false r q h k = k
 pub property_in : (site : ℕ) (objects : List Object) (o : ℕ) (key : Text) (x : Value) → WrittenIn (only site) (add_property site objects o key x)
 property_in site objects o key x =
     chosen_in site (is_some (look_up key (object_at objects o).properties) || nat_lt (length (object_at objects o).properties) entry_limit)
-        (Ok (with_property objects o key x)) (no_room site) tt (left_in site why.Size)
+    (Ok (with_property objects o key x)) (no_room site) tt (left_in site why.Size)
 
 pub item_in : (site : ℕ) (objects : List Object) (o : ℕ) (x : Value) → WrittenIn (only site) (add_item site objects o x)
 item_in site objects o x =

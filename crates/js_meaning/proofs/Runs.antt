@@ -1,5 +1,5 @@
 -- The paths of examples: what is left of a script behind its opened layers is computed.
-use Rattle.std.proofs.Common.{◌≡◌, ℕ, suc, ℤ, List, [], ◌∷◌, refl, ap, ◌∙◌}
+use Rattle.std.proofs.Common.{◌≡◌, ℕ, suc, ℤ, List, [], ap, ◌∙◌}
 use Rattle.path_core.specs.declared.bounds.Bounds.{Bounds}
 use Rattle.path_core.specs.declared.bounds.Declared.{Declared}
 use Rattle.path_core.specs.declared.bounds.Kind.TheVariants as kinds
@@ -9,9 +9,8 @@ use Rattle.path_core.specs.declared.path.Event.{Event}
 use Rattle.path_core.specs.declared.path.Event.TheVariants.{Pick}
 use Rattle.path_core.specs.declared.path.PickKind.TheVariants.{Branch}
 use Rattle.path_core.specs.declared.path.End.{End}
-use Rattle.js_ast.specs.declared.statement.Stmt.{Stmt}
 use Rattle.js_meaning.specs.Parts.{Meaning}
-use Rattle.js_meaning.specs.Meaning.{stmts, whole_of, calls_in, outermost}
+use Rattle.js_meaning.specs.Meaning.{whole_of, calls_in, outermost}
 use Rattle.js_meaning.specs.Path.{start, path_by, path_of, steps_of}
 use Rattle.js_meaning.proofs.KnownStatements.{KnownStmt, stmt_trees, known_block, same_block}
 

@@ -1,31 +1,26 @@
 -- Examples of statements.
-use Rattle.std.proofs.Common.{◌≡◌, ℕ, pos, negsuc, true, false, List, [], ◌∷◌, codes, Some, None, refl}
+use Rattle.std.proofs.Common.{◌≡◌, false, List, [], ◌∷◌, codes, Some, None, refl}
 use Rattle.std.specs.Fmt.{digits}
 use Rattle.path_core.specs.declared.path.ErrorName.TheVariants as fault
-use Rattle.path_core.specs.declared.path.InputValue.TheVariants as input
 use Rattle.path_core.specs.declared.path.Thrown.TheVariants as thrown
 use Rattle.path_core.specs.declared.path.Budget.TheVariants as budget
 use Rattle.path_core.specs.declared.path.Why.TheVariants as why
 use Rattle.path_core.specs.declared.path.End.TheVariants.{Done, Threw, Left, Cut}
 use Rattle.js_ast.specs.declared.operators.BinaryOp.TheVariants as op
-use Rattle.js_ast.specs.declared.operators.UnaryOp.TheVariants as un
-use Rattle.js_ast.specs.declared.operators.StepOp.TheVariants.{Increment, Decrement}
-use Rattle.js_ast.specs.declared.operators.LogicalOp.TheVariants as logic
+use Rattle.js_ast.specs.declared.operators.StepOp.TheVariants.{Increment}
 use Rattle.js_ast.specs.declared.operators.DeclarationKind.TheVariants.{Let, Const}
-use Rattle.js_ast.specs.declared.parts.Key.TheVariants as key
 use Rattle.js_ast.specs.declared.expression.Expr.TheOpen.{Expr-F, Stmt-F}
 use Rattle.js_meaning.specs.Running.{count, turn, new_object}
 use Rattle.js_meaning.specs.Builtins.{call_builtin, construct}
 use Rattle.js_meaning.specs.Objects.{get_row, bracket_row, set_row}
 use Rattle.js_meaning.specs.Operators.{test_row, logical_row, binary_row, unary_row, step_row}
 use Rattle.js_meaning.specs.Names.{open_cell, init_name, find_name, read_name, put_name}
-use Rattle.js_meaning.proofs.Known.{Known, named, leaf, array, new_, unary, conditional, link, binary, logical, valued, short, object, dot, bracket, get, call_, call, to_name, to_property, step, assign}
-use Rattle.js_meaning.proofs.KnownStatements.{KnownStmt, stmt_trees, known_block, known_value, body_known, value_known, function_, arrow_block, still, braces, express, throw_, return_, declare_}
+use Rattle.js_meaning.proofs.Known.{named, leaf, array, link, binary, dot, get, call_, call, to_name, step, assign}
+use Rattle.js_meaning.proofs.KnownStatements.{KnownStmt, stmt_trees, known_block, body_known, still, braces, express, throw_, return_, declare_}
 use Rattle.js_meaning.proofs.KnownForms.{when, if_, if_else, while_, do_, for_of_, no_head, value_head, declare_head, for_, try_}
-use Rattle.js_meaning.proofs.Runs.{whole, branched, goes, uses, runs, path_is, steps_are}
-use Rattle.js_ast.specs.declared.expression.Expr.{Expr}
+use Rattle.js_meaning.proofs.Runs.{branched, goes, uses, runs, path_is, steps_are}
 use Rattle.js_ast.specs.declared.statement.Stmt.{Stmt}
-use Rattle.js_meaning.specs.Values.{statements, expression}
+use Rattle.js_meaning.specs.Values.{statements}
 use Rattle.js_meaning.specs.Meaning.{body_of}
 
 -- let a = 1; { let a = 2; } if (a === 1) {}
@@ -139,8 +134,11 @@ while_break_script = (declare_ 0 Let ((named 4 (codes "i"), (Some (leaf (Expr-F.
     (leaf (Expr-F.Number 36 1)) ∷ [])) (still (Stmt-F.Break 39)) ∷ []) ∷ express 46 (step 46 47 Increment false
     (to_name (named 46 (codes "i")))) ∷ [])) ∷ [])
 
-while_break : goes 10 [] [] while_break_script ≡ ((branched 11 1 ∷ branched 26 0 ∷ branched 11 1 ∷ branched 26 1 ∷
-    []), Done)
+while_break : goes 10 [] [] while_break_script ≡ (
+  (branched 11 1 ∷ branched 26 0 ∷ branched 11 1 ∷ branched 26 1 ∷
+      []),
+  Done,
+)
 unfolding count turn new_object call_builtin construct get_row bracket_row set_row test_row logical_row binary_row unary_row step_row open_cell init_name find_name read_name put_name digits
 while_break = path_is 10 [] [] while_break_script refl
 
@@ -152,8 +150,11 @@ do_continue_script = (declare_ 0 Let ((named 4 (codes "i"), (Some (leaf (Expr-F.
     34)) ∷ []) ∷ [])) 46 (binary (leaf (Expr-F.Name (named 53 (codes "i")))) (link 55 op.Less (leaf (Expr-F.Number 57
     2)) ∷ [])) ∷ [])
 
-do_continue : goes 10 [] [] do_continue_script ≡ ((branched 21 1 ∷ branched 46 1 ∷ branched 21 0 ∷ branched 46 0 ∷
-    []), Done)
+do_continue : goes 10 [] [] do_continue_script ≡ (
+  (branched 21 1 ∷ branched 46 1 ∷ branched 21 0 ∷ branched 46 0 ∷
+      []),
+  Done,
+)
 unfolding count turn new_object call_builtin construct get_row bracket_row set_row test_row logical_row binary_row unary_row step_row open_cell init_name find_name read_name put_name digits
 do_continue = path_is 10 [] [] do_continue_script refl
 
@@ -277,8 +278,11 @@ return_from_loop_run : (ss1 : List Stmt) → body_of (statements ss1) ≡ known_
 unfolding count turn new_object call_builtin construct get_row bracket_row set_row test_row logical_row binary_row unary_row step_row open_cell init_name find_name read_name put_name digits
 return_from_loop_run ss1 p1 = rw p1 refl
 
-return_from_loop : goes 2 [] [] (return_from_loop_script (stmt_trees return_from_loop_body_1)) ≡ ((branched 15 1 ∷
-    branched 44 1 ∷ []), Done)
+return_from_loop : goes 2 [] [] (return_from_loop_script (stmt_trees return_from_loop_body_1)) ≡ (
+  (branched 15 1 ∷
+      branched 44 1 ∷ []),
+  Done,
+)
 return_from_loop = path_is 2 [] [] (return_from_loop_script (stmt_trees return_from_loop_body_1))
     (return_from_loop_run (stmt_trees return_from_loop_body_1) (body_known return_from_loop_body_1))
 
@@ -305,9 +309,12 @@ thrown_again = path_is 10 [] [] thrown_again_script refl
 
 -- try { throw 1; } catch (e) { if (e === 1) {} }
 abbrev catch_name_script : List KnownStmt
-catch_name_script = (try_ 0 (throw_ 6 (leaf (Expr-F.Number 12 1)) ∷ []) (Some ((Some (named 24 (codes "e"))), (if_
-    (when 29 (binary (leaf (Expr-F.Name (named 33 (codes "e")))) (link 35 op.Equal (leaf (Expr-F.Number 39 1)) ∷ []))
-    (braces 42 []) ∷ []) ∷ []))) None ∷ [])
+catch_name_script = (try_ 0 (throw_ 6 (leaf (Expr-F.Number 12 1)) ∷ []) (Some (
+  (Some (named 24 (codes "e"))),
+  (if_
+      (when 29 (binary (leaf (Expr-F.Name (named 33 (codes "e")))) (link 35 op.Equal (leaf (Expr-F.Number 39 1)) ∷ []))
+      (braces 42 []) ∷ []) ∷ []),
+)) None ∷ [])
 
 catch_name : goes 10 [] [] catch_name_script ≡ ((branched 29 1 ∷ []), Done)
 unfolding count turn new_object call_builtin construct get_row bracket_row set_row test_row logical_row binary_row unary_row step_row open_cell init_name find_name read_name put_name digits
@@ -327,8 +334,11 @@ through_call_body_1 = (throw_ 15 (leaf (Expr-F.Number 21 1)) ∷ [])
 
 abbrev through_call_script : List Stmt → List KnownStmt
 through_call_script ss1 = (still (Stmt-F.Function 0 (named 9 (codes "f")) [] ss1) ∷ try_ 26 (express 32 (call (leaf
-    (Expr-F.Name (named 32 (codes "f")))) (call_ 33 [] ∷ [])) ∷ []) (Some ((Some (named 46 (codes "e"))), (throw_ 51
-    (leaf (Expr-F.Number 57 2)) ∷ []))) None ∷ [])
+    (Expr-F.Name (named 32 (codes "f")))) (call_ 33 [] ∷ [])) ∷ []) (Some (
+      (Some (named 46 (codes "e"))),
+      (throw_ 51
+          (leaf (Expr-F.Number 57 2)) ∷ []),
+    )) None ∷ [])
 
 through_call_run : (ss1 : List Stmt) → body_of (statements ss1) ≡ known_block through_call_body_1 → runs 1 [] []
     (through_call_script ss1) ≡ ([], Threw 51 thrown.Value)
@@ -354,8 +364,11 @@ finally_replaces_run : (ss1 : List Stmt) → body_of (statements ss1) ≡ known_
 unfolding count turn new_object call_builtin construct get_row bracket_row set_row test_row logical_row binary_row unary_row step_row open_cell init_name find_name read_name put_name digits
 finally_replaces_run ss1 p1 = rw p1 refl
 
-finally_replaces : goes 1 [] [] (finally_replaces_script (stmt_trees finally_replaces_body_1)) ≡ ((branched 57 1 ∷
-    []), Done)
+finally_replaces : goes 1 [] [] (finally_replaces_script (stmt_trees finally_replaces_body_1)) ≡ (
+  (branched 57 1 ∷
+      []),
+  Done,
+)
 finally_replaces = path_is 1 [] [] (finally_replaces_script (stmt_trees finally_replaces_body_1))
     (finally_replaces_run (stmt_trees finally_replaces_body_1) (body_known finally_replaces_body_1))
 

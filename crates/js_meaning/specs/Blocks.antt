@@ -1,12 +1,12 @@
 -- Blocks: the names that they declare, what is done on entry, statements one after the other, and functions made and entered.
-use Rattle.std.specs.Prelude.{ℕ, Bool, true, false, List, [], ◌∷◌, ◌++◌, map, Option, Some, None}
+use Rattle.std.specs.Prelude.{ℕ, Bool, true, false, List, [], ◌∷◌, ◌++◌, Option, Some, None}
 use Rattle.js_ast.specs.declared.expression.Expr.TheOpen.{Stmt-F}
 use Rattle.js_ast.specs.declared.statement.Stmt.{Stmt, out-Stmt}
 use Rattle.js_ast.specs.declared.operators.DeclarationKind.{DeclarationKind}
 use Rattle.js_ast.specs.declared.operators.DeclarationKind.TheVariants.{Let, Const}
 use Rattle.js_ast.specs.declared.parts.Declarator.{Declarator}
 use Rattle.js_ast.specs.declared.parts.Identifier.{Identifier}
-use Rattle.js_meaning.specs.Values.{Text, Value, undefined, Scope, Body, statements, expression, Code, Place}
+use Rattle.js_meaning.specs.Values.{Text, Value, undefined, Scope, Body, statements, Code, Place}
 use Rattle.js_meaning.specs.Running.{Outcome, done, bind, given, normal, on_value, on_normal, turn}
 use Rattle.js_meaning.specs.Names.{open_cell, init_name}
 use Rattle.js_meaning.specs.Parts.{Meaning, make_function}
@@ -59,7 +59,7 @@ abbrev pub function_expression : ℕ → Option Identifier → List Identifier �
 function_expression site None parameters body scope st = make_function site (plain_code parameters body scope) st (λ f st. done st (given f))
 function_expression site (Some name) parameters body scope st =
     open_cell name.site name.name false None scope st (λ scope st.
-        make_function site (plain_code parameters body scope) st (λ f st. done (init_name name.name scope f st) (given f)))
+    make_function site (plain_code parameters body scope) st (λ f st. done (init_name name.name scope f st) (given f)))
 
 abbrev pub start_function : {E A : Type 0} → Stmt-F E Stmt A → Scope → Place → (Place → Outcome) → Outcome
 start_function (Stmt-F.Function site name parameters body) scope st go =

@@ -6,7 +6,7 @@ use Rattle.path_core.specs.declared.path.Budget.TheVariants as budget
 use Rattle.path_core.specs.declared.path.End.TheVariants.{Cut}
 use Rattle.js_ast.specs.declared.parts.Identifier.{Identifier}
 use Rattle.js_meaning.specs.Values.{Text, Value, text, object, Scope, Binding, Object, Place}
-use Rattle.js_meaning.specs.Running.{Completion, normal, breaks, continues, throws, stops, Outcome, done, bind, leaves, turn, throw_error, on_value}
+use Rattle.js_meaning.specs.Running.{Completion, normal, breaks, continues, stops, Outcome, done, bind, leaves, turn, throw_error, on_value}
 use Rattle.js_meaning.specs.Objects.{object_at, is_array}
 use Rattle.js_meaning.specs.Names.{open_cell, binding_of}
 use Rattle.js_meaning.specs.Parts.{branch}
@@ -119,8 +119,8 @@ abbrev pub of_loop : ℕ → ℕ → Declaration → Part → ℕ → ℕ → Sc
 of_loop zero site name body o i scope st = spent site st
 of_loop (suc k) site name body o i scope st =
     with_item (item_at st.objects o i) st (λ st. done st normal)
-        (λ x st. turn site st (λ st. open_cell name.site name.name name.is_mutable (Some x) scope st (λ inner st.
-            bind (body k inner st) (after_body (of_loop k site name body o (i + 1) scope)))))
+    (λ x st. turn site st (λ st. open_cell name.site name.name name.is_mutable (Some x) scope st (λ inner st.
+    bind (body k inner st) (after_body (of_loop k site name body o (i + 1) scope)))))
 
 -- 14.7.5.5 and 7.4.3, GetIterator: an array, or a match result; a string leaves the profile, and nothing else is run over
 abbrev pub of_start : ℕ → (ℕ → Place → Outcome) → Value → Place → Outcome

@@ -1,9 +1,7 @@
 -- What a script does, big-step, by cases on its tree (ECMA-262, evaluation of strict mode code).
-use Rattle.std.specs.Prelude.{ℕ, zero, suc, ◌+◌, Bool, true, false, pos, min, nat_le, length, List, [], ◌∷◌, ◌++◌, map, Option, Some, None, option_map, if◌then◌else◌}
+use Rattle.std.specs.Prelude.{ℕ, zero, suc, ◌+◌, Bool, true, false, pos, min, nat_le, length, List, [], ◌∷◌, map, Option, Some, None, option_map, if◌then◌else◌}
 use Rattle.path_core.specs.declared.path.ErrorName.TheVariants as kind
 use Rattle.path_core.specs.declared.path.Why.TheVariants as why
-use Rattle.path_core.specs.declared.path.Budget.TheVariants as budget
-use Rattle.path_core.specs.declared.path.End.TheVariants.{Cut}
 use Rattle.js_ast.specs.declared.expression.Expr.{Expr, para-Expr}
 use Rattle.js_ast.specs.declared.expression.Expr.TheOpen.{Expr-F, Stmt-F, Arm-F}
 use Rattle.js_ast.specs.declared.statement.Stmt.{Stmt, para-Stmt}
@@ -12,15 +10,14 @@ use Rattle.js_ast.specs.declared.parts.Catch.{Catch}
 use Rattle.js_ast.specs.declared.parts.Identifier.{Identifier}
 use Rattle.js_ast.specs.declared.parts.LoopHead.{LoopHead}
 use Rattle.js_ast.specs.declared.parts.LoopHead.TheVariants as head
-use Rattle.js_ast.specs.declared.operators.DeclarationKind.{DeclarationKind}
-use Rattle.js_meaning.specs.Values.{Text, Value, undefined, null, truth, int, text, object, Scope, Body, statements, expression, Code, Place, plain, array}
-use Rattle.js_meaning.specs.Running.{Completion, given, refers, normal, breaks, continues, returns, throws, stops, callee, Outcome, done, bind, leaves, count, turn, new_object, throw, throw_error, play, on_value, on_reference, text_limit}
+use Rattle.js_meaning.specs.Values.{Text, Value, undefined, null, truth, int, text, Scope, Body, statements, expression, Code, Place, plain, array}
+use Rattle.js_meaning.specs.Running.{Completion, given, normal, breaks, continues, returns, throws, stops, Outcome, done, bind, leaves, count, new_object, throw, throw_error, play, on_value, on_reference, text_limit}
 use Rattle.js_meaning.specs.Builtins.{Calls, among, error_names, construct}
 use Rattle.js_meaning.specs.Objects.{code_of}
 use Rattle.js_meaning.specs.Operators.{unary_row}
-use Rattle.js_meaning.specs.Names.{Found, bound, supplied, listed, nowhere, find_name, read_name, read_found, open_cell}
+use Rattle.js_meaning.specs.Names.{Found, listed, find_name, read_name, read_found, open_cell}
 use Rattle.js_meaning.specs.Parts.{Meaning, branch, make_function, gather, elements, members, links, logical_links, chain, aim, assign, step}
-use Rattle.js_meaning.specs.Blocks.{Declaration, declaration, is_let, declared_of, open_names, plain_code, arrow_code, function_expression, block, declare, activate}
+use Rattle.js_meaning.specs.Blocks.{Declaration, declaration, is_let, declared_of, open_names, arrow_code, function_expression, block, declare, activate}
 use Rattle.js_meaning.specs.Loops.{Part, spent, while_loop, do_loop, next_scope, for_loop, of_loop, of_start, kept, open_catch}
 use Rattle.js_meaning.specs.Nodes.{expr_node, stmt_node, count_at}
 
@@ -101,7 +98,7 @@ optional (Some s) calls k scope st = s.1 calls k scope st
 abbrev pub of_arm : Arm-F (Expr × Meaning) (Stmt × Meaning) (Arm × Arms) → Arms
 of_arm arm rest calls k scope st =
     count arm.site st (λ st. bind (arm.test.1 calls k scope st) (on_value (λ x st.
-        branch arm.site x st (λ holds. chosen holds arm.consequent.1 rest calls k scope))))
+    branch arm.site x st (λ holds. chosen holds arm.consequent.1 rest calls k scope))))
 
 abbrev pub all_arms : List (Arm × Arms) → Meaning → Meaning
 all_arms [] rest = rest
@@ -122,13 +119,13 @@ for_head head.Nothing calls k scope go st = go [] scope st
 for_head (head.Value e) calls k scope go st = bind (e.1 calls k scope st) (on_value (λ x st. go [] scope st))
 for_head (head.Declare kind ds) calls k outer go st =
     open_names (declared_of kind ds) outer st (λ scope st.
-        bind (declare meaning_of ds calls k scope st) (for_declared (is_let kind) (declared_of kind ds) outer scope go))
+    bind (declare meaning_of ds calls k scope st) (for_declared (is_let kind) (declared_of kind ds) outer scope go))
 
 -- 14.7.5.5: the iterated expression stands where the name isn't initialised
 abbrev pub for_of : ℕ → Declaration → Meaning → Part → Calls → ℕ → Scope → Place → Outcome
 for_of site name items body calls k scope st =
     open_cell name.site name.name name.is_mutable None scope st (λ inner st.
-        bind (items calls k inner st) (on_value (of_start site (λ o. of_loop (suc k) site name body o 0 scope))))
+    bind (items calls k inner st) (on_value (of_start site (λ o. of_loop (suc k) site name body o 0 scope))))
 
 -- CatchClauseEvaluation (14.15.2)
 abbrev pub caught : Option (Catch (List (Stmt × Meaning))) → Calls → ℕ → Scope → Place → Completion → Outcome

@@ -5,7 +5,7 @@ use Rattle.path_core.specs.declared.path.ErrorName.{ErrorName}
 use Rattle.path_core.specs.declared.path.ErrorName.TheVariants as kind
 use Rattle.path_core.specs.declared.path.Why.TheVariants as why
 use Rattle.js_meaning.specs.Values.{Text, Value, undefined, null, truth, int, nan, text, object, Code, Class, plain, array, matched, function, regexp, error, Object, Place}
-use Rattle.js_meaning.specs.Running.{Reference, callee, intrinsic, static, method, Answer, comes_to, raises, ends, Row, Outcome, done, given, leaves, leaving, giving, ending, entry_limit, answer, play}
+use Rattle.js_meaning.specs.Running.{Reference, callee, intrinsic, static, method, Answer, comes_to, raises, ends, Row, Outcome, leaves, leaving, ending, entry_limit, answer, play}
 use Rattle.js_meaning.specs.Builtins.{among, is_static, is_method, array_methods, pattern_methods}
 
 -- ---- keys

@@ -1,5 +1,5 @@
 -- Parts of expressions: arguments, literals, chains of operators and of suffixes, and targets. `run` is what a part below does.
-use Rattle.std.specs.Prelude.{ℕ, ◌+◌, Bool, true, false, List, [], ◌∷◌, ◌++◌, Option, Some, None, decimal, if◌then◌else◌}
+use Rattle.std.specs.Prelude.{ℕ, ◌+◌, Bool, true, false, List, [], ◌∷◌, ◌++◌, Option, Some, None, decimal}
 use Rattle.path_core.specs.declared.path.Why.TheVariants as why
 use Rattle.js_ast.specs.declared.operators.BinaryOp.{BinaryOp}
 use Rattle.js_ast.specs.declared.operators.LogicalOp.{LogicalOp}
@@ -94,7 +94,7 @@ abbrev pub logical_links : {E : Type 0} → (E → Meaning) → List (Link Logic
 logical_links run [] calls k scope x st = done st (given x)
 logical_links run (l ∷ ls) calls k scope x st =
     count l.site st (λ st. bind (play (logical_row l.op l.site x) st) (on_value (λ b st.
-        bind (decided (goes_on l.op (to_boolean b)) (run l.right) x calls k scope st) (on_value (logical_links run ls calls k scope)))))
+    bind (decided (goes_on l.op (to_boolean b)) (run l.right) x calls k scope st) (on_value (logical_links run ls calls k scope)))))
 
 -- ---- chains of suffixes (13.3); each counts before its key or its arguments
 
@@ -114,13 +114,13 @@ abbrev pub chain : {E : Type 0} → (E → Meaning) → List (Suffix E) → Call
 chain run [] calls k scope r st = done st (refers r)
 chain run (suffix.Access (access.Property site name) ∷ ss) calls k scope r st =
     settled r st (λ st. count site st (λ st.
-        bind (play (property_row site r name st.objects) st) (on_reference (chain run ss calls k scope))))
+    bind (play (property_row site r name st.objects) st) (on_reference (chain run ss calls k scope))))
 chain run (suffix.Access (access.Index site is_static e) ∷ ss) calls k scope r st =
     settled r st (λ st. count site st (λ st. bind (run e calls k scope st) (on_value (λ y st.
-        bind (get_bracket site is_static r y st) (on_reference (chain run ss calls k scope))))))
+    bind (get_bracket site is_static r y st) (on_reference (chain run ss calls k scope))))))
 chain run (suffix.Call site arguments ∷ ss) calls k scope r st =
     count site st (gather run arguments calls k scope [] (λ xs st.
-        bind (invoke calls site r xs st) (on_reference (chain run ss calls k scope))))
+    bind (invoke calls site r xs st) (on_reference (chain run ss calls k scope))))
 
 -- ---- targets (13.15.1, simple assignment targets)
 
@@ -173,7 +173,7 @@ plain_assign value calls k scope a st = bind (value calls k scope st) (on_value 
 abbrev pub compound_assign : BinaryOp → ℕ → Meaning → Calls → ℕ → Scope → Aim → Place → Outcome
 compound_assign op site value calls k scope a st =
     bind (get_aim scope a st) (on_value (λ x st. bind (value calls k scope st) (on_value (λ y st.
-        bind (apply op site x y st) (on_value (put_aim scope a))))))
+    bind (apply op site x y st) (on_value (put_aim scope a))))))
 
 abbrev pub assign : Option BinaryOp → ℕ → Meaning → Calls → ℕ → Scope → Aim → Place → Outcome
 assign None site = plain_assign
@@ -189,4 +189,4 @@ step_value false x y = old_number x
 abbrev pub step : StepOp → ℕ → Bool → Scope → Aim → Place → Outcome
 step s site is_prefix scope a st =
     bind (get_aim scope a st) (on_value (λ x st. bind (play (step_row s site x) st) (on_value (λ y st.
-        bind (put_aim scope a y st) (on_value (λ z st. done st (given (step_value is_prefix x z))))))))
+    bind (put_aim scope a y st) (on_value (λ z st. done st (given (step_value is_prefix x z))))))))
