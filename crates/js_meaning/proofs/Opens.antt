@@ -16,14 +16,17 @@ with_stmt s = (s, stmt s)
 abbrev pub with_arm : Arm → Arm × Arms
 with_arm a = (a, arm a)
 
-pub opens_expr : (f : Expr-F Expr Stmt Arm) → expr (roll-Expr f) ≡ of_expr (map-Expr Expr Stmt Arm (Expr × Meaning) (Stmt × Meaning) (Arm × Arms) with_expr with_stmt with_arm f)
+pub opens_expr : (f : Expr-F Expr Stmt Arm) →
+    expr (roll-Expr f) ≡ of_expr (map-Expr Expr Stmt Arm (Expr × Meaning) (Stmt × Meaning) (Arm × Arms) with_expr with_stmt with_arm f)
 unfolding expr stmt arm
 opens_expr f = para-roll-Expr Meaning Meaning Arms of_expr of_stmt of_arm f
 
-pub opens_stmt : (f : Stmt-F Expr Stmt Arm) → stmt (roll-Stmt f) ≡ of_stmt (map-Stmt Expr Stmt Arm (Expr × Meaning) (Stmt × Meaning) (Arm × Arms) with_expr with_stmt with_arm f)
+pub opens_stmt : (f : Stmt-F Expr Stmt Arm) →
+    stmt (roll-Stmt f) ≡ of_stmt (map-Stmt Expr Stmt Arm (Expr × Meaning) (Stmt × Meaning) (Arm × Arms) with_expr with_stmt with_arm f)
 unfolding expr stmt arm
 opens_stmt f = para-roll-Stmt Meaning Meaning Arms of_expr of_stmt of_arm f
 
-pub opens_arm : (f : Arm-F Expr Stmt Arm) → arm (roll-Arm f) ≡ of_arm (map-Arm Expr Stmt Arm (Expr × Meaning) (Stmt × Meaning) (Arm × Arms) with_expr with_stmt with_arm f)
+pub opens_arm : (f : Arm-F Expr Stmt Arm) →
+    arm (roll-Arm f) ≡ of_arm (map-Arm Expr Stmt Arm (Expr × Meaning) (Stmt × Meaning) (Arm × Arms) with_expr with_stmt with_arm f)
 unfolding expr stmt arm
 opens_arm f = para-roll-Arm Meaning Meaning Arms of_expr of_stmt of_arm f

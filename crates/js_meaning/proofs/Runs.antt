@@ -23,7 +23,8 @@ abbrev pub branched : ℕ → ℕ → Event
 branched site out = Pick site Branch out 2
 
 abbrev pub bounded : ℕ → List Declared → Bounds
-bounded turns inputs = record { turns = turns; paths = 1000; candidates = 64; steps = 1000000; width = 20000000; pieces = 1; inputs = inputs }
+bounded turns inputs =
+    record { turns = turns; paths = 1000; candidates = 64; steps = 1000000; width = 20000000; pieces = 1; inputs = inputs }
 
 abbrev pub shown : Path → List Event × End
 shown path = (path.events, path.end)
@@ -37,15 +38,20 @@ abbrev pub uses : ℕ → List Declared → List InputValue → List KnownStmt �
 uses turns inputs values ks = steps_of (record { body = stmt_trees ks }) (bounded turns inputs) values
 
 abbrev pub runs : ℕ → List Declared → List InputValue → List KnownStmt → List Event × End
-runs turns inputs values ks = shown (path_by (known_block ks (calls_in (suc turns)) turns outermost (start (bounded turns inputs) values [])))
+runs turns inputs values ks =
+    shown (path_by (known_block ks (calls_in (suc turns)) turns outermost (start (bounded turns inputs) values [])))
 
 abbrev pub counts : ℕ → List Declared → List InputValue → List KnownStmt → ℕ
-counts turns inputs values ks = (known_block ks (calls_in (suc turns)) turns outermost (start (bounded turns inputs) values [])).1.0.nodes
+counts turns inputs values ks =
+    (known_block ks (calls_in (suc turns)) turns outermost (start (bounded turns inputs) values [])).1.0.nodes
 
 pub path_is : {r : List Event × End} (turns : ℕ) (inputs : List Declared) (values : List InputValue) (ks : List KnownStmt) → runs turns inputs values ks ≡ r → goes turns inputs values ks ≡ r
 unfolding whole_of
-path_is turns inputs values ks p = ap (λ (m : Meaning). shown (path_by (m (calls_in (suc turns)) turns outermost (start (bounded turns inputs) values [])))) (same_block ks) ∙ p
+path_is turns inputs values ks p =
+    ap (λ (m : Meaning). shown (path_by (m (calls_in (suc turns)) turns outermost (start (bounded turns inputs) values [])))) (same_block ks) ∙ p
 
-pub steps_are : {n : ℕ} (turns : ℕ) (inputs : List Declared) (values : List InputValue) (ks : List KnownStmt) → counts turns inputs values ks ≡ n → uses turns inputs values ks ≡ n
+pub steps_are : {n : ℕ} (turns : ℕ) (inputs : List Declared) (values : List InputValue) (ks : List KnownStmt) →
+    counts turns inputs values ks ≡ n → uses turns inputs values ks ≡ n
 unfolding whole_of
-steps_are turns inputs values ks p = ap (λ (m : Meaning). (m (calls_in (suc turns)) turns outermost (start (bounded turns inputs) values [])).1.0.nodes) (same_block ks) ∙ p
+steps_are turns inputs values ks p =
+    ap (λ (m : Meaning). (m (calls_in (suc turns)) turns outermost (start (bounded turns inputs) values [])).1.0.nodes) (same_block ks) ∙ p

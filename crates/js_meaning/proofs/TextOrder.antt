@@ -20,7 +20,8 @@ rest_less : (a b c : Bool) → b ≡ true → c ≡ true → (a || (b && c)) ≡
 rest_less true b c e f = refl
 rest_less false b c e f = rw (e, f) refl
 
-found : (x y : ℕ) (xs ys : List ℕ) → (text_less xs ys ≡ true → IsLess xs ys) → (nat_lt x y ≡ true) ⊎ (((x == y) ≡ true) × (text_less xs ys ≡ true)) → IsLess (x ∷ xs) (y ∷ ys)
+found : (x y : ℕ) (xs ys : List ℕ) → (text_less xs ys ≡ true → IsLess xs ys) →
+    (nat_lt x y ≡ true) ⊎ (((x == y) ≡ true) × (text_less xs ys ≡ true)) → IsLess (x ∷ xs) (y ∷ ys)
 found x y xs ys k (inl l) = inl (ltb-true x y l)
 found x y xs ys k (inr p) = inr (eqb-true x y p.0, k p.1)
 
@@ -35,4 +36,5 @@ less_is [] [] h = absurd h
 less_is [] (y ∷ ys) h = refl
 less_is (x ∷ xs) [] h = absurd h
 less_is (x ∷ xs) (y ∷ ys) (inl l) = first_less (nat_lt x y) (x == y) (text_less xs ys) (lt-ltb x y l)
-less_is (x ∷ xs) (y ∷ ys) (inr p) = rest_less (nat_lt x y) (x == y) (text_less xs ys) (eq-eqb x y p.0) (less_is xs ys p.1)
+less_is (x ∷ xs) (y ∷ ys) (inr p) =
+    rest_less (nat_lt x y) (x == y) (text_less xs ys) (eq-eqb x y p.0) (less_is xs ys p.1)

@@ -16,7 +16,8 @@ abbrev pub error_names : List Text
 error_names = codes "Error" ∷ codes "TypeError" ∷ codes "RangeError" ∷ codes "ReferenceError" ∷ []
 
 abbrev pub builtin_names : List Text
-builtin_names = codes "undefined" ∷ codes "NaN" ∷ codes "parseInt" ∷ codes "String" ∷ codes "Object" ∷ codes "Array" ∷ error_names
+builtin_names =
+    codes "undefined" ∷ codes "NaN" ∷ codes "parseInt" ∷ codes "String" ∷ codes "Object" ∷ codes "Array" ∷ error_names
 
 abbrev pub is_builtin : Text → Bool
 is_builtin name = among name builtin_names

@@ -41,16 +41,19 @@ abbrev pub text_literal : ℕ → Text → Place → Outcome
 text_literal site t st = if nat_le (length t) text_limit then done st (given (text t)) else leaves site why.Size st
 
 -- `new` of anything but the constructor of an error leaves the profile, before its arguments
-abbrev pub new_found : {E : Type 0} → (E → Meaning) → ℕ → Identifier → List E → Calls → ℕ → Scope → Found → Place → Outcome
+abbrev pub new_found : {E : Type 0} → (E → Meaning) → ℕ → Identifier → List E → Calls → ℕ → Scope → Found → Place →
+    Outcome
 new_found run site name arguments calls k scope listed st =
     if among name.name error_names
     then gather run arguments calls k scope [] (construct site name.name) st
     else leaves site why.New st
-new_found run site name arguments calls k scope f st = bind (read_found name.site name.name f st) (on_value (λ x st. leaves site why.New st))
+new_found run site name arguments calls k scope f st =
+    bind (read_found name.site name.name f st) (on_value (λ x st. leaves site why.New st))
 
 -- 13.3.5: the name is looked up first, as in any reading
 abbrev pub new_of : {E : Type 0} → (E → Meaning) → ℕ → Identifier → List E → Meaning
-new_of run site name arguments calls k scope st = new_found run site name arguments calls k scope (find_name scope name.name st) st
+new_of run site name arguments calls k scope st =
+    new_found run site name arguments calls k scope (find_name scope name.name st) st
 
 abbrev pub chosen : Bool → Meaning → Meaning → Meaning
 chosen true so other = so
@@ -65,22 +68,31 @@ in_expr (Expr-F.Null site) calls k scope st = done st (given null)
 in_expr (Expr-F.True site) calls k scope st = done st (given (truth true))
 in_expr (Expr-F.False site) calls k scope st = done st (given (truth false))
 in_expr (Expr-F.This site) calls k scope st = done st (given scope.this)
-in_expr (Expr-F.Array site items) calls k scope st = new_object site array st (elements meaning_of site items calls k scope)
+in_expr (Expr-F.Array site items) calls k scope st =
+    new_object site array st (elements meaning_of site items calls k scope)
 in_expr (Expr-F.Object site ms) calls k scope st = new_object site plain st (members meaning_of site ms calls k scope)
-in_expr (Expr-F.FunctionExpression site name parameters body) calls k scope st = function_expression site name parameters (trees_of body) scope st
+in_expr (Expr-F.FunctionExpression site name parameters body) calls k scope st =
+    function_expression site name parameters (trees_of body) scope st
 in_expr (Expr-F.Arrow site parameters value) calls k scope st =
     make_function site (arrow_code parameters (expression value.0) scope) st (λ f st. done st (given f))
 in_expr (Expr-F.ArrowBlock site parameters body) calls k scope st =
     make_function site (arrow_code parameters (statements (trees_of body)) scope) st (λ f st. done st (given f))
 in_expr (Expr-F.New site name arguments) calls k scope st = new_of meaning_of site name arguments calls k scope st
-in_expr (Expr-F.Call first suffixes) calls k scope st = bind (first.1 calls k scope st) (on_reference (chain meaning_of suffixes calls k scope))
-in_expr (Expr-F.Unary site op operand) calls k scope st = bind (operand.1 calls k scope st) (on_value (λ x st. play (unary_row op site x st.objects) st))
-in_expr (Expr-F.Step start site op is_prefix t) calls k scope st = aim meaning_of t calls k scope (step op site is_prefix scope) st
-in_expr (Expr-F.Binary first ls) calls k scope st = bind (first.1 calls k scope st) (on_value (links meaning_of ls calls k scope))
-in_expr (Expr-F.Logical first ls) calls k scope st = bind (first.1 calls k scope st) (on_value (logical_links meaning_of ls calls k scope))
+in_expr (Expr-F.Call first suffixes) calls k scope st =
+    bind (first.1 calls k scope st) (on_reference (chain meaning_of suffixes calls k scope))
+in_expr (Expr-F.Unary site op operand) calls k scope st =
+    bind (operand.1 calls k scope st) (on_value (λ x st. play (unary_row op site x st.objects) st))
+in_expr (Expr-F.Step start site op is_prefix t) calls k scope st =
+    aim meaning_of t calls k scope (step op site is_prefix scope) st
+in_expr (Expr-F.Binary first ls) calls k scope st =
+    bind (first.1 calls k scope st) (on_value (links meaning_of ls calls k scope))
+in_expr (Expr-F.Logical first ls) calls k scope st =
+    bind (first.1 calls k scope st) (on_value (logical_links meaning_of ls calls k scope))
 in_expr (Expr-F.Conditional start site test consequent alternate) calls k scope st =
-    bind (test.1 calls k scope st) (on_value (λ x st. branch site x st (λ holds. chosen holds consequent.1 alternate.1 calls k scope)))
-in_expr (Expr-F.Assign start site op t value) calls k scope st = aim meaning_of t calls k scope (assign op site value.1 calls k scope) st
+    bind (test.1 calls k scope st) (on_value
+    (λ x st. branch site x st (λ holds. chosen holds consequent.1 alternate.1 calls k scope)))
+in_expr (Expr-F.Assign start site op t value) calls k scope st =
+    aim meaning_of t calls k scope (assign op site value.1 calls k scope) st
 
 abbrev pub of_expr : Expr-F (Expr × Meaning) (Stmt × Meaning) (Arm × Arms) → Meaning
 of_expr f calls k scope st = count_at (expr_node f) st (in_expr f calls k scope)
@@ -108,13 +120,15 @@ abbrev pub part_of : Calls → Expr × Meaning → Part
 part_of calls e k scope st = e.1 calls k scope st
 
 -- behind the declarations of the head: first fresh bindings of `let`, and none of `const`
-abbrev pub for_declared : Bool → List Declaration → Scope → Scope → (List Declaration → Scope → Place → Outcome) → Place → Completion → Outcome
+abbrev pub for_declared : Bool → List Declaration → Scope → Scope → (List Declaration → Scope → Place → Outcome) →
+    Place → Completion → Outcome
 for_declared true names outer scope go st normal = next_scope names scope outer st (go names)
 for_declared false names outer scope go st normal = go [] scope st
 for_declared is_let names outer scope go st c = done st c
 
 -- 14.7.4.2: what stands first in the head, and then the loop, with the names that get fresh bindings in each round
-abbrev pub for_head : LoopHead (Expr × Meaning) → Calls → ℕ → Scope → (List Declaration → Scope → Place → Outcome) → Place → Outcome
+abbrev pub for_head : LoopHead (Expr × Meaning) → Calls → ℕ → Scope → (List Declaration → Scope → Place → Outcome) →
+    Place → Outcome
 for_head head.Nothing calls k scope go st = go [] scope st
 for_head (head.Value e) calls k scope go st = bind (e.1 calls k scope st) (on_value (λ x st. go [] scope st))
 for_head (head.Declare kind ds) calls k outer go st =
@@ -150,8 +164,10 @@ in_stmt (Stmt-F.Declare site kind ds) calls k scope st = declare meaning_of ds c
 in_stmt (Stmt-F.Function site name parameters body) calls k scope st = done st normal
 in_stmt (Stmt-F.Express site value) calls k scope st = bind (value.1 calls k scope st) (on_value gives_nothing)
 in_stmt (Stmt-F.If arms alternate) calls k scope st = all_arms arms (optional alternate) calls k scope st
-in_stmt (Stmt-F.While site test body) calls k scope st = while_loop (suc k) site (part_of calls test) (body.1 calls) scope st
-in_stmt (Stmt-F.Do site body test_site test) calls k scope st = do_loop (suc k) site test_site (part_of calls test) (body.1 calls) scope st
+in_stmt (Stmt-F.While site test body) calls k scope st =
+    while_loop (suc k) site (part_of calls test) (body.1 calls) scope st
+in_stmt (Stmt-F.Do site body test_site test) calls k scope st =
+    do_loop (suc k) site test_site (part_of calls test) (body.1 calls) scope st
 in_stmt (Stmt-F.For site h test update body) calls k outer st =
     for_head h calls k outer (λ names. for_loop (suc k) site names (option_map (part_of calls) test) (option_map (part_of calls) update) (body.1 calls) outer) st
 in_stmt (Stmt-F.ForOf site kind name items body) calls k scope st =
@@ -203,7 +219,8 @@ body_of (expression e) calls k scope st = bind (expr e calls k scope st) (on_val
 
 abbrev pub call : Option Code → Calls → ℕ → ℕ → Value → List Value → Place → Outcome
 call None calls k site this xs st = throw_error site kind.TypeError st
-call (Some code) calls k site this xs st = activate site code this xs st (λ scope st. bind (body_of code.body calls k scope st) returned)
+call (Some code) calls k site this xs st =
+    activate site code this xs st (λ scope st. bind (body_of code.body calls k scope st) returned)
 
 -- calls that nest less than so many times deep; the turns run out before
 abbrev pub calls_in : ℕ → Calls

@@ -115,7 +115,9 @@ leaves site why st = done st (stops (stamped st (leaving site why)))
 
 -- one node, at a site
 unfoldable pub count : ℕ → Place → (Place → Outcome) → Outcome
-count site st go = if nat_lt st.nodes node_limit then go (record st { nodes = st.nodes + 1 }) else done st (stops (Cut site budget.Nodes))
+count site st go =
+    if nat_lt st.nodes node_limit then go (record st { nodes = st.nodes + 1 })
+    else done st (stops (Cut site budget.Nodes))
 
 abbrev pub turn_of : ℕ → ℕ → Place → (Place → Outcome) → Outcome
 turn_of zero site st go = done st (stops (Cut site budget.Turns))
