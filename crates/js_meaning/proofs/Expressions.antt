@@ -423,3 +423,64 @@ counter_run ss1 p1 = rw p1 refl
 counter : goes 1 [] [] (counter_script (stmt_trees counter_body_1)) ≡ ((branched 40 1 ∷ []), Done)
 counter = path_is 1 [] [] (counter_script (stmt_trees counter_body_1)) (counter_run (stmt_trees counter_body_1)
     (body_known counter_body_1))
+
+-- let o = { m: function () { return this; } }; let r = (1 ? o.m : 0)(); if (r === undefined) {}
+abbrev no_this_of_choice_body_1 : List KnownStmt
+no_this_of_choice_body_1 = (return_ 27 (leaf (Expr-F.This 34)) ∷ [])
+
+abbrev no_this_of_choice_script : List Stmt → List KnownStmt
+no_this_of_choice_script ss1 = (declare_ 0 Let ((
+  named 4 (codes "o"),
+  (Some (object 8 (valued 10 (key.Text (codes
+      "m")) (function_ 13 None [] ss1) ∷ []))),
+) ∷ []) ∷ declare_ 45 Let ((
+  named 49 (codes "r"),
+  (Some (call (conditional
+      54 56 (leaf (Expr-F.Number 54 1)) (call (leaf (Expr-F.Name (named 58 (codes "o")))) (get (dot 59 (codes "m")) ∷
+      [])) (leaf (Expr-F.Number 64 0))) (call_ 66 [] ∷ []))),
+) ∷ []) ∷ if_ (when 70 (binary (leaf (Expr-F.Name (named 74
+    (codes "r")))) (link 76 op.Equal (leaf (Expr-F.Name (named 80 (codes "undefined")))) ∷ [])) (braces 91 []) ∷ []) ∷
+    [])
+
+no_this_of_choice_run : (ss1 : List Stmt) → body_of (statements ss1) ≡ known_block no_this_of_choice_body_1 → runs 1
+    [] [] (no_this_of_choice_script ss1) ≡ ((branched 56 1 ∷ branched 70 1 ∷ []), Done)
+unfolding count turn new_object call_builtin construct get_row bracket_row set_row test_row logical_row binary_row unary_row step_row open_cell init_name find_name read_name put_name digits
+no_this_of_choice_run ss1 p1 = rw p1 refl
+
+no_this_of_choice : goes 1 [] [] (no_this_of_choice_script (stmt_trees no_this_of_choice_body_1)) ≡ (
+  (branched 56 1 ∷
+      branched 70 1 ∷ []),
+  Done,
+)
+no_this_of_choice = path_is 1 [] [] (no_this_of_choice_script (stmt_trees no_this_of_choice_body_1))
+    (no_this_of_choice_run (stmt_trees no_this_of_choice_body_1) (body_known no_this_of_choice_body_1))
+
+-- let o = { m: function () { return this; } }; let r = (0 || o.m)(); if (r === undefined) {}
+abbrev no_this_of_or_body_1 : List KnownStmt
+no_this_of_or_body_1 = (return_ 27 (leaf (Expr-F.This 34)) ∷ [])
+
+abbrev no_this_of_or_script : List Stmt → List KnownStmt
+no_this_of_or_script ss1 = (declare_ 0 Let ((
+  named 4 (codes "o"),
+  (Some (object 8 (valued 10 (key.Text (codes "m"))
+      (function_ 13 None [] ss1) ∷ []))),
+) ∷ []) ∷ declare_ 45 Let ((
+  named 49 (codes "r"),
+  (Some (call (logical (leaf
+      (Expr-F.Number 54 0)) (link 56 logic.Or (call (leaf (Expr-F.Name (named 59 (codes "o")))) (get (dot 60 (codes
+      "m")) ∷ [])) ∷ [])) (call_ 63 [] ∷ []))),
+) ∷ []) ∷ if_ (when 67 (binary (leaf (Expr-F.Name (named 71 (codes "r"))))
+    (link 73 op.Equal (leaf (Expr-F.Name (named 77 (codes "undefined")))) ∷ [])) (braces 88 []) ∷ []) ∷ [])
+
+no_this_of_or_run : (ss1 : List Stmt) → body_of (statements ss1) ≡ known_block no_this_of_or_body_1 → runs 1 [] []
+    (no_this_of_or_script ss1) ≡ ((branched 56 0 ∷ branched 67 1 ∷ []), Done)
+unfolding count turn new_object call_builtin construct get_row bracket_row set_row test_row logical_row binary_row unary_row step_row open_cell init_name find_name read_name put_name digits
+no_this_of_or_run ss1 p1 = rw p1 refl
+
+no_this_of_or : goes 1 [] [] (no_this_of_or_script (stmt_trees no_this_of_or_body_1)) ≡ (
+  (branched 56 0 ∷ branched 67
+      1 ∷ []),
+  Done,
+)
+no_this_of_or = path_is 1 [] [] (no_this_of_or_script (stmt_trees no_this_of_or_body_1)) (no_this_of_or_run
+    (stmt_trees no_this_of_or_body_1) (body_known no_this_of_or_body_1))

@@ -425,3 +425,73 @@ calls_run_out_run ss1 p1 = rw p1 refl
 calls_run_out : goes 1 [] [] (calls_run_out_script (stmt_trees calls_run_out_body_1)) ≡ ([], Cut 16 budget.Turns)
 calls_run_out = path_is 1 [] [] (calls_run_out_script (stmt_trees calls_run_out_body_1)) (calls_run_out_run
     (stmt_trees calls_run_out_body_1) (body_known calls_run_out_body_1))
+
+-- function f() { for (;;) { return; } } let r = f(); if (r === undefined) {}
+abbrev return_alone_body_1 : List KnownStmt
+return_alone_body_1 = (for_ 15 no_head None None (braces 24 (still (Stmt-F.Return 26 None) ∷ [])) ∷ [])
+
+abbrev return_alone_script : List Stmt → List KnownStmt
+return_alone_script ss1 = (still (Stmt-F.Function 0 (named 9 (codes "f")) [] ss1) ∷ declare_ 38 Let ((
+  named 42 (codes
+      "r"),
+  (Some (call (leaf (Expr-F.Name (named 46 (codes "f")))) (call_ 47 [] ∷ []))),
+) ∷ []) ∷ if_ (when 51 (binary
+    (leaf (Expr-F.Name (named 55 (codes "r")))) (link 57 op.Equal (leaf (Expr-F.Name (named 61 (codes "undefined"))))
+    ∷ [])) (braces 72 []) ∷ []) ∷ [])
+
+return_alone_run : (ss1 : List Stmt) → body_of (statements ss1) ≡ known_block return_alone_body_1 → runs 2 [] []
+    (return_alone_script ss1) ≡ ((branched 51 1 ∷ []), Done)
+unfolding count turn new_object call_builtin construct get_row bracket_row set_row test_row logical_row binary_row unary_row step_row open_cell init_name find_name read_name put_name digits
+return_alone_run ss1 p1 = rw p1 refl
+
+return_alone : goes 2 [] [] (return_alone_script (stmt_trees return_alone_body_1)) ≡ ((branched 51 1 ∷ []), Done)
+return_alone = path_is 2 [] [] (return_alone_script (stmt_trees return_alone_body_1)) (return_alone_run (stmt_trees
+    return_alone_body_1) (body_known return_alone_body_1))
+
+-- let r = 1; { r = f; function f() {} } f;
+abbrev block_functions_body_1 : List KnownStmt
+block_functions_body_1 = []
+
+abbrev block_functions_script : List Stmt → List KnownStmt
+block_functions_script ss1 = (declare_ 0 Let ((named 4 (codes "r"), (Some (leaf (Expr-F.Number 8 1)))) ∷ []) ∷ braces
+    11 (express 13 (assign 13 15 None (to_name (named 13 (codes "r"))) (leaf (Expr-F.Name (named 17 (codes "f"))))) ∷
+    still (Stmt-F.Function 20 (named 29 (codes "f")) [] ss1) ∷ []) ∷ express 38 (leaf (Expr-F.Name (named 38 (codes
+    "f")))) ∷ [])
+
+block_functions : goes 10 [] [] (block_functions_script (stmt_trees block_functions_body_1)) ≡ (
+  [],
+  Left 38 why.Name 0
+      0,
+)
+unfolding count turn new_object call_builtin construct get_row bracket_row set_row test_row logical_row binary_row unary_row step_row open_cell init_name find_name read_name put_name digits
+block_functions = path_is 10 [] [] (block_functions_script (stmt_trees block_functions_body_1)) refl
+
+-- for (const x of [1]) continue;
+abbrev of_live_index_script : List KnownStmt
+of_live_index_script = (for_of_ 0 Const (named 11 (codes "x")) (array 16 (leaf (Expr-F.Number 17 1) ∷ [])) (still
+    (Stmt-F.Continue 21)) ∷ [])
+
+of_live_index : goes 10 [] [] of_live_index_script ≡ ([], Done)
+unfolding count turn new_object call_builtin construct get_row bracket_row set_row test_row logical_row binary_row unary_row step_row open_cell init_name find_name read_name put_name digits
+of_live_index = path_is 10 [] [] of_live_index_script refl
+
+-- for (const x of [1, 2]) {}
+abbrev of_turns_run_out_script : List KnownStmt
+of_turns_run_out_script = (for_of_ 0 Const (named 11 (codes "x")) (array 16 (leaf (Expr-F.Number 17 1) ∷ leaf
+    (Expr-F.Number 20 2) ∷ [])) (braces 24 []) ∷ [])
+
+of_turns_run_out : goes 1 [] [] of_turns_run_out_script ≡ ([], Cut 0 budget.Turns)
+unfolding count turn new_object call_builtin construct get_row bracket_row set_row test_row logical_row binary_row unary_row step_row open_cell init_name find_name read_name put_name digits
+of_turns_run_out = path_is 1 [] [] of_turns_run_out_script refl
+
+-- try { throw 1; } catch (e) { throw 2; } finally { if (1) {} }
+abbrev catch_finally_script : List KnownStmt
+catch_finally_script = (try_ 0 (throw_ 6 (leaf (Expr-F.Number 12 1)) ∷ []) (Some (
+  (Some (named 24 (codes "e"))),
+  (throw_ 29 (leaf (Expr-F.Number 35 2)) ∷ []),
+)) (Some (if_ (when 50 (leaf (Expr-F.Number 54 1)) (braces 57 []) ∷
+    []) ∷ [])) ∷ [])
+
+catch_finally : goes 10 [] [] catch_finally_script ≡ ((branched 50 1 ∷ []), Threw 29 thrown.Value)
+unfolding count turn new_object call_builtin construct get_row bracket_row set_row test_row logical_row binary_row unary_row step_row open_cell init_name find_name read_name put_name digits
+catch_finally = path_is 10 [] [] catch_finally_script refl

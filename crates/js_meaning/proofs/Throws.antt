@@ -10,13 +10,14 @@ use Rattle.js_ast.specs.declared.operators.BinaryOp.TheVariants as op
 use Rattle.js_ast.specs.declared.operators.UnaryOp.TheVariants as un
 use Rattle.js_ast.specs.declared.operators.StepOp.TheVariants.{Increment}
 use Rattle.js_ast.specs.declared.operators.DeclarationKind.TheVariants.{Let, Const}
+use Rattle.js_ast.specs.declared.parts.Key.TheVariants as key
 use Rattle.js_ast.specs.declared.expression.Expr.TheOpen.{Expr-F}
 use Rattle.js_meaning.specs.Running.{count, turn, new_object}
 use Rattle.js_meaning.specs.Builtins.{call_builtin, construct}
 use Rattle.js_meaning.specs.Objects.{get_row, bracket_row, set_row}
 use Rattle.js_meaning.specs.Operators.{test_row, logical_row, binary_row, unary_row, step_row}
 use Rattle.js_meaning.specs.Names.{open_cell, init_name, find_name, read_name, put_name}
-use Rattle.js_meaning.proofs.Known.{named, leaf, unary, link, binary, dot, get, call_, call, to_name, to_property, step, assign}
+use Rattle.js_meaning.proofs.Known.{named, leaf, unary, link, binary, valued, object, dot, get, call_, call, to_name, to_property, step, assign}
 use Rattle.js_meaning.proofs.KnownStatements.{KnownStmt, stmt_trees, known_block, body_known, function_, braces, express, return_, declare_}
 use Rattle.js_meaning.proofs.KnownForms.{when, if_, try_}
 use Rattle.js_meaning.proofs.Runs.{whole, branched, goes, runs, path_is}
@@ -223,3 +224,26 @@ two_errors_script = (declare_ 0 Let ((named 4 (codes "d"), None) ∷ []) ∷ try
 two_errors : goes 10 [] [] two_errors_script ≡ ((branched 72 0 ∷ branched 88 1 ∷ []), Done)
 unfolding count turn new_object call_builtin construct get_row bracket_row set_row test_row logical_row binary_row unary_row step_row open_cell init_name find_name read_name put_name digits
 two_errors = path_is 10 [] [] two_errors_script refl
+
+-- let o = {}; o.m(1);
+abbrev call_of_property_script : List KnownStmt
+call_of_property_script = (declare_ 0 Let ((named 4 (codes "o"), (Some (object 8 []))) ∷ []) ∷ express 12 (call (leaf
+    (Expr-F.Name (named 12 (codes "o")))) (get (dot 13 (codes "m")) ∷ call_ 15 (leaf (Expr-F.Number 16 1) ∷ []) ∷ []))
+    ∷ [])
+
+call_of_property : goes 10 [] [] call_of_property_script ≡ ([], Threw 15 (thrown.Named fault.TypeError))
+unfolding count turn new_object call_builtin construct get_row bracket_row set_row test_row logical_row binary_row unary_row step_row open_cell init_name find_name read_name put_name digits
+call_of_property = path_is 10 [] [] call_of_property_script refl
+
+-- let o = { f: null }; o.f.x;
+abbrev write_then_read_script : List KnownStmt
+write_then_read_script = (declare_ 0 Let ((
+  named 4 (codes "o"),
+  (Some (object 8 (valued 10 (key.Text (codes "f"))
+      (leaf (Expr-F.Null 13)) ∷ []))),
+) ∷ []) ∷ express 21 (call (leaf (Expr-F.Name (named 21 (codes "o")))) (get (dot 22
+    (codes "f")) ∷ get (dot 24 (codes "x")) ∷ [])) ∷ [])
+
+write_then_read : goes 10 [] [] write_then_read_script ≡ ([], Threw 24 (thrown.Named fault.TypeError))
+unfolding count turn new_object call_builtin construct get_row bracket_row set_row test_row logical_row binary_row unary_row step_row open_cell init_name find_name read_name put_name digits
+write_then_read = path_is 10 [] [] write_then_read_script refl

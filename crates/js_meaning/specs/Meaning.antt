@@ -11,7 +11,7 @@ use Rattle.js_ast.specs.declared.parts.Identifier.{Identifier}
 use Rattle.js_ast.specs.declared.parts.LoopHead.{LoopHead}
 use Rattle.js_ast.specs.declared.parts.LoopHead.TheVariants as head
 use Rattle.js_meaning.specs.Values.{Text, Value, undefined, null, truth, int, text, Scope, Body, statements, expression, Code, Place, plain, array}
-use Rattle.js_meaning.specs.Running.{Completion, given, normal, breaks, continues, returns, throws, stops, Outcome, done, bind, leaves, count, new_object, throw, throw_error, play, on_value, on_reference, text_limit}
+use Rattle.js_meaning.specs.Running.{Completion, given, normal, breaks, continues, returns, throws, stops, Outcome, done, bind, leaves, count, new_object, throw, throw_error, play, on_value, its_value, on_reference, text_limit}
 use Rattle.js_meaning.specs.Builtins.{Calls, among, error_names, construct}
 use Rattle.js_meaning.specs.Objects.{code_of}
 use Rattle.js_meaning.specs.Operators.{unary_row}
@@ -89,8 +89,8 @@ in_expr (Expr-F.Binary first ls) calls k scope st =
 in_expr (Expr-F.Logical first ls) calls k scope st =
     bind (first.1 calls k scope st) (on_value (logical_links meaning_of ls calls k scope))
 in_expr (Expr-F.Conditional start site test consequent alternate) calls k scope st =
-    bind (test.1 calls k scope st) (on_value
-    (λ x st. branch site x st (λ holds. chosen holds consequent.1 alternate.1 calls k scope)))
+    bind (test.1 calls k scope st) (on_value (λ x st. branch site x st (λ holds st.
+    bind (chosen holds consequent.1 alternate.1 calls k scope st) its_value)))
 in_expr (Expr-F.Assign start site op t value) calls k scope st =
     aim meaning_of t calls k scope (assign op site value.1 calls k scope) st
 

@@ -198,6 +198,10 @@ on_value go st (given value) = go value st
 on_value go st (refers r) = get_value go r st
 on_value go st c = done st c
 
+-- the value itself, which has no `this` any more
+abbrev pub its_value : Place → Completion → Outcome
+its_value = on_value (λ value st. done st (given value))
+
 -- with what an expression refers to; a value has no `this`
 abbrev pub on_reference : (Reference → Place → Outcome) → Place → Completion → Outcome
 on_reference go st (given value) = go (callee value undefined) st
