@@ -1,17 +1,13 @@
 -- Examples of expressions.
-use Rattle.std.proofs.Common.{◌≡◌, ℕ, pos, negsuc, true, false, List, [], ◌∷◌, codes, Some, None, refl}
+use Rattle.std.proofs.Common.{◌≡◌, pos, true, false, List, [], ◌∷◌, codes, Some, None, refl}
 use Rattle.std.specs.Fmt.{digits}
-use Rattle.path_core.specs.declared.path.ErrorName.TheVariants as fault
 use Rattle.path_core.specs.declared.path.InputValue.TheVariants as input
-use Rattle.path_core.specs.declared.path.Thrown.TheVariants as thrown
-use Rattle.path_core.specs.declared.path.Budget.TheVariants as budget
-use Rattle.path_core.specs.declared.path.Why.TheVariants as why
-use Rattle.path_core.specs.declared.path.End.TheVariants.{Done, Threw, Left, Cut}
+use Rattle.path_core.specs.declared.path.End.TheVariants.{Done}
 use Rattle.js_ast.specs.declared.operators.BinaryOp.TheVariants as op
 use Rattle.js_ast.specs.declared.operators.UnaryOp.TheVariants as un
 use Rattle.js_ast.specs.declared.operators.StepOp.TheVariants.{Increment, Decrement}
 use Rattle.js_ast.specs.declared.operators.LogicalOp.TheVariants as logic
-use Rattle.js_ast.specs.declared.operators.DeclarationKind.TheVariants.{Let, Const}
+use Rattle.js_ast.specs.declared.operators.DeclarationKind.TheVariants.{Let}
 use Rattle.js_ast.specs.declared.parts.Key.TheVariants as key
 use Rattle.js_ast.specs.declared.expression.Expr.TheOpen.{Expr-F, Stmt-F}
 use Rattle.js_meaning.specs.Running.{count, turn, new_object}
@@ -19,13 +15,13 @@ use Rattle.js_meaning.specs.Builtins.{call_builtin, construct}
 use Rattle.js_meaning.specs.Objects.{get_row, bracket_row, set_row}
 use Rattle.js_meaning.specs.Operators.{test_row, logical_row, binary_row, unary_row, step_row}
 use Rattle.js_meaning.specs.Names.{open_cell, init_name, find_name, read_name, put_name}
-use Rattle.js_meaning.proofs.Known.{Known, named, leaf, array, new_, unary, conditional, link, binary, logical, valued, short, object, dot, bracket, get, call_, call, to_name, to_property, step, assign}
-use Rattle.js_meaning.proofs.KnownStatements.{KnownStmt, stmt_trees, known_block, known_value, body_known, value_known, function_, arrow_block, still, braces, express, throw_, return_, declare_}
-use Rattle.js_meaning.proofs.KnownForms.{when, if_, if_else, while_, do_, for_of_, no_head, value_head, declare_head, for_, try_}
+use Rattle.js_meaning.proofs.Known.{Known, named, leaf, array, unary, conditional, link, binary, logical, valued, short, object, dot, get, call_, call, to_name, to_property, step, assign}
+use Rattle.js_meaning.proofs.KnownStatements.{KnownStmt, stmt_trees, known_block, body_known, function_, arrow_block, still, braces, express, return_, declare_}
+use Rattle.js_meaning.proofs.KnownForms.{when, if_}
 use Rattle.js_meaning.proofs.Runs.{whole, branched, goes, uses, runs, path_is, steps_are}
 use Rattle.js_ast.specs.declared.expression.Expr.{Expr}
 use Rattle.js_ast.specs.declared.statement.Stmt.{Stmt}
-use Rattle.js_meaning.specs.Values.{statements, expression}
+use Rattle.js_meaning.specs.Values.{statements}
 use Rattle.js_meaning.specs.Meaning.{body_of}
 
 -- 0 && 1 && 2;
@@ -218,8 +214,11 @@ compound_steps = steps_are 10 [] [] compound_script refl
 
 -- let o = { a: 1 }; o.a += 2; if (o.a === 3) {}
 abbrev compound_property_script : List KnownStmt
-compound_property_script = (declare_ 0 Let ((named 4 (codes "o"), (Some (object 8 (valued 10 (key.Text (codes "a"))
-    (leaf (Expr-F.Number 13 1)) ∷ [])))) ∷ []) ∷ express 18 (assign 18 22 (Some op.Add) (to_property (leaf
+compound_property_script = (declare_ 0 Let ((
+  named 4 (codes "o"),
+  (Some (object 8 (valued 10 (key.Text (codes "a"))
+      (leaf (Expr-F.Number 13 1)) ∷ []))),
+) ∷ []) ∷ express 18 (assign 18 22 (Some op.Add) (to_property (leaf
     (Expr-F.Name (named 18 (codes "o")))) (dot 19 (codes "a"))) (leaf (Expr-F.Number 25 2))) ∷ if_ (when 28 (binary
     (call (leaf (Expr-F.Name (named 32 (codes "o")))) (get (dot 33 (codes "a")) ∷ [])) (link 36 op.Equal (leaf
     (Expr-F.Number 40 3)) ∷ [])) (braces 43 []) ∷ []) ∷ [])
@@ -231,8 +230,11 @@ compound_property = path_is 10 [] [] compound_property_script refl
 -- let a = 1; let o = { a, 7: 2 }; if (o.a === 1) {} if (o.b === undefined) {}
 abbrev own_keys_of_plain_script : List KnownStmt
 own_keys_of_plain_script = (declare_ 0 Let ((named 4 (codes "a"), (Some (leaf (Expr-F.Number 8 1)))) ∷ []) ∷ declare_
-    11 Let ((named 15 (codes "o"), (Some (object 19 (short (named 21 (codes "a")) ∷ valued 24 (key.Number 7) (leaf
-    (Expr-F.Number 27 2)) ∷ [])))) ∷ []) ∷ if_ (when 32 (binary (call (leaf (Expr-F.Name (named 36 (codes "o")))) (get
+    11 Let ((
+      named 15 (codes "o"),
+      (Some (object 19 (short (named 21 (codes "a")) ∷ valued 24 (key.Number 7) (leaf
+          (Expr-F.Number 27 2)) ∷ []))),
+    ) ∷ []) ∷ if_ (when 32 (binary (call (leaf (Expr-F.Name (named 36 (codes "o")))) (get
     (dot 37 (codes "a")) ∷ [])) (link 40 op.Equal (leaf (Expr-F.Number 44 1)) ∷ [])) (braces 47 []) ∷ []) ∷ if_ (when
     50 (binary (call (leaf (Expr-F.Name (named 54 (codes "o")))) (get (dot 55 (codes "b")) ∷ [])) (link 58 op.Equal
     (leaf (Expr-F.Name (named 62 (codes "undefined")))) ∷ [])) (braces 73 []) ∷ []) ∷ [])
@@ -271,9 +273,15 @@ abbrev this_of_method_body_1 : List KnownStmt
 this_of_method_body_1 = (return_ 27 (leaf (Expr-F.This 34)) ∷ [])
 
 abbrev this_of_method_script : List Stmt → List KnownStmt
-this_of_method_script ss1 = (declare_ 0 Let ((named 4 (codes "o"), (Some (object 8 (valued 10 (key.Text (codes "m"))
-    (function_ 13 None [] ss1) ∷ [])))) ∷ []) ∷ declare_ 45 Let ((named 49 (codes "r"), (Some (call (leaf (Expr-F.Name
-    (named 53 (codes "o")))) (get (dot 54 (codes "m")) ∷ call_ 56 [] ∷ [])))) ∷ []) ∷ if_ (when 60 (binary (leaf
+this_of_method_script ss1 = (declare_ 0 Let ((
+  named 4 (codes "o"),
+  (Some (object 8 (valued 10 (key.Text (codes "m"))
+      (function_ 13 None [] ss1) ∷ []))),
+) ∷ []) ∷ declare_ 45 Let ((
+  named 49 (codes "r"),
+  (Some (call (leaf (Expr-F.Name
+      (named 53 (codes "o")))) (get (dot 54 (codes "m")) ∷ call_ 56 [] ∷ []))),
+) ∷ []) ∷ if_ (when 60 (binary (leaf
     (Expr-F.Name (named 64 (codes "r")))) (link 66 op.Equal (leaf (Expr-F.Name (named 70 (codes "o")))) ∷ [])) (braces
     73 []) ∷ []) ∷ [])
 
@@ -282,8 +290,10 @@ this_of_method_run : (ss1 : List Stmt) → body_of (statements ss1) ≡ known_bl
 unfolding count turn new_object call_builtin construct get_row bracket_row set_row test_row logical_row binary_row unary_row step_row open_cell init_name find_name read_name put_name digits
 this_of_method_run ss1 p1 = rw p1 refl
 
-this_of_method : goes 1 [] [] (this_of_method_script (stmt_trees this_of_method_body_1)) ≡ ((branched 60 1 ∷ []),
-    Done)
+this_of_method : goes 1 [] [] (this_of_method_script (stmt_trees this_of_method_body_1)) ≡ (
+  (branched 60 1 ∷ []),
+  Done,
+)
 this_of_method = path_is 1 [] [] (this_of_method_script (stmt_trees this_of_method_body_1)) (this_of_method_run
     (stmt_trees this_of_method_body_1) (body_known this_of_method_body_1))
 
@@ -292,9 +302,15 @@ abbrev this_in_parentheses_body_1 : List KnownStmt
 this_in_parentheses_body_1 = (return_ 27 (leaf (Expr-F.This 34)) ∷ [])
 
 abbrev this_in_parentheses_script : List Stmt → List KnownStmt
-this_in_parentheses_script ss1 = (declare_ 0 Let ((named 4 (codes "o"), (Some (object 8 (valued 10 (key.Text (codes
-    "m")) (function_ 13 None [] ss1) ∷ [])))) ∷ []) ∷ declare_ 45 Let ((named 49 (codes "r"), (Some (call (call (leaf
-    (Expr-F.Name (named 54 (codes "o")))) (get (dot 55 (codes "m")) ∷ [])) (call_ 58 [] ∷ [])))) ∷ []) ∷ if_ (when 62
+this_in_parentheses_script ss1 = (declare_ 0 Let ((
+  named 4 (codes "o"),
+  (Some (object 8 (valued 10 (key.Text (codes
+      "m")) (function_ 13 None [] ss1) ∷ []))),
+) ∷ []) ∷ declare_ 45 Let ((
+  named 49 (codes "r"),
+  (Some (call (call (leaf
+      (Expr-F.Name (named 54 (codes "o")))) (get (dot 55 (codes "m")) ∷ [])) (call_ 58 [] ∷ []))),
+) ∷ []) ∷ if_ (when 62
     (binary (leaf (Expr-F.Name (named 66 (codes "r")))) (link 68 op.Equal (leaf (Expr-F.Name (named 72 (codes "o"))))
     ∷ [])) (braces 75 []) ∷ []) ∷ [])
 
@@ -303,8 +319,11 @@ this_in_parentheses_run : (ss1 : List Stmt) → body_of (statements ss1) ≡ kno
 unfolding count turn new_object call_builtin construct get_row bracket_row set_row test_row logical_row binary_row unary_row step_row open_cell init_name find_name read_name put_name digits
 this_in_parentheses_run ss1 p1 = rw p1 refl
 
-this_in_parentheses : goes 1 [] [] (this_in_parentheses_script (stmt_trees this_in_parentheses_body_1)) ≡ ((branched
-    62 1 ∷ []), Done)
+this_in_parentheses : goes 1 [] [] (this_in_parentheses_script (stmt_trees this_in_parentheses_body_1)) ≡ (
+  (branched
+      62 1 ∷ []),
+  Done,
+)
 this_in_parentheses = path_is 1 [] [] (this_in_parentheses_script (stmt_trees this_in_parentheses_body_1))
     (this_in_parentheses_run (stmt_trees this_in_parentheses_body_1) (body_known this_in_parentheses_body_1))
 
@@ -313,8 +332,11 @@ abbrev this_of_function_body_1 : List KnownStmt
 this_of_function_body_1 = (return_ 23 (leaf (Expr-F.This 30)) ∷ [])
 
 abbrev this_of_function_script : List Stmt → List KnownStmt
-this_of_function_script ss1 = (declare_ 0 Let ((named 4 (codes "r"), (Some (call (function_ 9 None [] ss1) (call_ 38
-    [] ∷ [])))) ∷ []) ∷ if_ (when 42 (binary (leaf (Expr-F.Name (named 46 (codes "r")))) (link 48 op.Equal (leaf
+this_of_function_script ss1 = (declare_ 0 Let ((
+  named 4 (codes "r"),
+  (Some (call (function_ 9 None [] ss1) (call_ 38
+      [] ∷ []))),
+) ∷ []) ∷ if_ (when 42 (binary (leaf (Expr-F.Name (named 46 (codes "r")))) (link 48 op.Equal (leaf
     (Expr-F.Name (named 52 (codes "undefined")))) ∷ [])) (braces 63 []) ∷ []) ∷ [])
 
 this_of_function_run : (ss1 : List Stmt) → body_of (statements ss1) ≡ known_block this_of_function_body_1 → runs 1 []
@@ -322,8 +344,11 @@ this_of_function_run : (ss1 : List Stmt) → body_of (statements ss1) ≡ known_
 unfolding count turn new_object call_builtin construct get_row bracket_row set_row test_row logical_row binary_row unary_row step_row open_cell init_name find_name read_name put_name digits
 this_of_function_run ss1 p1 = rw p1 refl
 
-this_of_function : goes 1 [] [] (this_of_function_script (stmt_trees this_of_function_body_1)) ≡ ((branched 42 1 ∷
-    []), Done)
+this_of_function : goes 1 [] [] (this_of_function_script (stmt_trees this_of_function_body_1)) ≡ (
+  (branched 42 1 ∷
+      []),
+  Done,
+)
 this_of_function = path_is 1 [] [] (this_of_function_script (stmt_trees this_of_function_body_1))
     (this_of_function_run (stmt_trees this_of_function_body_1) (body_known this_of_function_body_1))
 
@@ -333,8 +358,11 @@ missing_argument_body_1 = (return_ 19 (leaf (Expr-F.Name (named 26 (codes "b")))
 
 abbrev missing_argument_script : List Stmt → List KnownStmt
 missing_argument_script ss1 = (still (Stmt-F.Function 0 (named 9 (codes "f")) ((named 11 (codes "a")) ∷ (named 14
-    (codes "b")) ∷ []) ss1) ∷ declare_ 31 Let ((named 35 (codes "r"), (Some (call (leaf (Expr-F.Name (named 39 (codes
-    "f")))) (call_ 40 (leaf (Expr-F.Number 41 1) ∷ []) ∷ [])))) ∷ []) ∷ if_ (when 45 (binary (leaf (Expr-F.Name (named
+    (codes "b")) ∷ []) ss1) ∷ declare_ 31 Let ((
+      named 35 (codes "r"),
+      (Some (call (leaf (Expr-F.Name (named 39 (codes
+          "f")))) (call_ 40 (leaf (Expr-F.Number 41 1) ∷ []) ∷ []))),
+    ) ∷ []) ∷ if_ (when 45 (binary (leaf (Expr-F.Name (named
     49 (codes "r")))) (link 51 op.Equal (leaf (Expr-F.Name (named 55 (codes "undefined")))) ∷ [])) (braces 66 []) ∷
     []) ∷ [])
 
@@ -343,8 +371,11 @@ missing_argument_run : (ss1 : List Stmt) → body_of (statements ss1) ≡ known_
 unfolding count turn new_object call_builtin construct get_row bracket_row set_row test_row logical_row binary_row unary_row step_row open_cell init_name find_name read_name put_name digits
 missing_argument_run ss1 p1 = rw p1 refl
 
-missing_argument : goes 1 [] [] (missing_argument_script (stmt_trees missing_argument_body_1)) ≡ ((branched 45 1 ∷
-    []), Done)
+missing_argument : goes 1 [] [] (missing_argument_script (stmt_trees missing_argument_body_1)) ≡ (
+  (branched 45 1 ∷
+      []),
+  Done,
+)
 missing_argument = path_is 1 [] [] (missing_argument_script (stmt_trees missing_argument_body_1))
     (missing_argument_run (stmt_trees missing_argument_body_1) (body_known missing_argument_body_1))
 
@@ -354,8 +385,11 @@ further_argument_body_1 = (return_ 16 (leaf (Expr-F.Name (named 23 (codes "a")))
 
 abbrev further_argument_script : List Stmt → List KnownStmt
 further_argument_script ss1 = (still (Stmt-F.Function 0 (named 9 (codes "f")) ((named 11 (codes "a")) ∷ []) ss1) ∷
-    declare_ 28 Let ((named 32 (codes "r"), (Some (call (leaf (Expr-F.Name (named 36 (codes "f")))) (call_ 37 (leaf
-    (Expr-F.Number 38 1) ∷ leaf (Expr-F.Number 41 2) ∷ []) ∷ [])))) ∷ []) ∷ if_ (when 45 (binary (leaf (Expr-F.Name
+    declare_ 28 Let ((
+      named 32 (codes "r"),
+      (Some (call (leaf (Expr-F.Name (named 36 (codes "f")))) (call_ 37 (leaf
+          (Expr-F.Number 38 1) ∷ leaf (Expr-F.Number 41 2) ∷ []) ∷ []))),
+    ) ∷ []) ∷ if_ (when 45 (binary (leaf (Expr-F.Name
     (named 49 (codes "r")))) (link 51 op.Equal (leaf (Expr-F.Number 55 1)) ∷ [])) (braces 58 []) ∷ []) ∷ [])
 
 further_argument_run : (ss1 : List Stmt) → body_of (statements ss1) ≡ known_block further_argument_body_1 → runs 1 []
@@ -363,8 +397,11 @@ further_argument_run : (ss1 : List Stmt) → body_of (statements ss1) ≡ known_
 unfolding count turn new_object call_builtin construct get_row bracket_row set_row test_row logical_row binary_row unary_row step_row open_cell init_name find_name read_name put_name digits
 further_argument_run ss1 p1 = rw p1 refl
 
-further_argument : goes 1 [] [] (further_argument_script (stmt_trees further_argument_body_1)) ≡ ((branched 45 1 ∷
-    []), Done)
+further_argument : goes 1 [] [] (further_argument_script (stmt_trees further_argument_body_1)) ≡ (
+  (branched 45 1 ∷
+      []),
+  Done,
+)
 further_argument = path_is 1 [] [] (further_argument_script (stmt_trees further_argument_body_1))
     (further_argument_run (stmt_trees further_argument_body_1) (body_known further_argument_body_1))
 
@@ -386,3 +423,64 @@ counter_run ss1 p1 = rw p1 refl
 counter : goes 1 [] [] (counter_script (stmt_trees counter_body_1)) ≡ ((branched 40 1 ∷ []), Done)
 counter = path_is 1 [] [] (counter_script (stmt_trees counter_body_1)) (counter_run (stmt_trees counter_body_1)
     (body_known counter_body_1))
+
+-- let o = { m: function () { return this; } }; let r = (1 ? o.m : 0)(); if (r === undefined) {}
+abbrev no_this_of_choice_body_1 : List KnownStmt
+no_this_of_choice_body_1 = (return_ 27 (leaf (Expr-F.This 34)) ∷ [])
+
+abbrev no_this_of_choice_script : List Stmt → List KnownStmt
+no_this_of_choice_script ss1 = (declare_ 0 Let ((
+  named 4 (codes "o"),
+  (Some (object 8 (valued 10 (key.Text (codes
+      "m")) (function_ 13 None [] ss1) ∷ []))),
+) ∷ []) ∷ declare_ 45 Let ((
+  named 49 (codes "r"),
+  (Some (call (conditional
+      54 56 (leaf (Expr-F.Number 54 1)) (call (leaf (Expr-F.Name (named 58 (codes "o")))) (get (dot 59 (codes "m")) ∷
+      [])) (leaf (Expr-F.Number 64 0))) (call_ 66 [] ∷ []))),
+) ∷ []) ∷ if_ (when 70 (binary (leaf (Expr-F.Name (named 74
+    (codes "r")))) (link 76 op.Equal (leaf (Expr-F.Name (named 80 (codes "undefined")))) ∷ [])) (braces 91 []) ∷ []) ∷
+    [])
+
+no_this_of_choice_run : (ss1 : List Stmt) → body_of (statements ss1) ≡ known_block no_this_of_choice_body_1 → runs 1
+    [] [] (no_this_of_choice_script ss1) ≡ ((branched 56 1 ∷ branched 70 1 ∷ []), Done)
+unfolding count turn new_object call_builtin construct get_row bracket_row set_row test_row logical_row binary_row unary_row step_row open_cell init_name find_name read_name put_name digits
+no_this_of_choice_run ss1 p1 = rw p1 refl
+
+no_this_of_choice : goes 1 [] [] (no_this_of_choice_script (stmt_trees no_this_of_choice_body_1)) ≡ (
+  (branched 56 1 ∷
+      branched 70 1 ∷ []),
+  Done,
+)
+no_this_of_choice = path_is 1 [] [] (no_this_of_choice_script (stmt_trees no_this_of_choice_body_1))
+    (no_this_of_choice_run (stmt_trees no_this_of_choice_body_1) (body_known no_this_of_choice_body_1))
+
+-- let o = { m: function () { return this; } }; let r = (0 || o.m)(); if (r === undefined) {}
+abbrev no_this_of_or_body_1 : List KnownStmt
+no_this_of_or_body_1 = (return_ 27 (leaf (Expr-F.This 34)) ∷ [])
+
+abbrev no_this_of_or_script : List Stmt → List KnownStmt
+no_this_of_or_script ss1 = (declare_ 0 Let ((
+  named 4 (codes "o"),
+  (Some (object 8 (valued 10 (key.Text (codes "m"))
+      (function_ 13 None [] ss1) ∷ []))),
+) ∷ []) ∷ declare_ 45 Let ((
+  named 49 (codes "r"),
+  (Some (call (logical (leaf
+      (Expr-F.Number 54 0)) (link 56 logic.Or (call (leaf (Expr-F.Name (named 59 (codes "o")))) (get (dot 60 (codes
+      "m")) ∷ [])) ∷ [])) (call_ 63 [] ∷ []))),
+) ∷ []) ∷ if_ (when 67 (binary (leaf (Expr-F.Name (named 71 (codes "r"))))
+    (link 73 op.Equal (leaf (Expr-F.Name (named 77 (codes "undefined")))) ∷ [])) (braces 88 []) ∷ []) ∷ [])
+
+no_this_of_or_run : (ss1 : List Stmt) → body_of (statements ss1) ≡ known_block no_this_of_or_body_1 → runs 1 [] []
+    (no_this_of_or_script ss1) ≡ ((branched 56 0 ∷ branched 67 1 ∷ []), Done)
+unfolding count turn new_object call_builtin construct get_row bracket_row set_row test_row logical_row binary_row unary_row step_row open_cell init_name find_name read_name put_name digits
+no_this_of_or_run ss1 p1 = rw p1 refl
+
+no_this_of_or : goes 1 [] [] (no_this_of_or_script (stmt_trees no_this_of_or_body_1)) ≡ (
+  (branched 56 0 ∷ branched 67
+      1 ∷ []),
+  Done,
+)
+no_this_of_or = path_is 1 [] [] (no_this_of_or_script (stmt_trees no_this_of_or_body_1)) (no_this_of_or_run
+    (stmt_trees no_this_of_or_body_1) (body_known no_this_of_or_body_1))

@@ -1,5 +1,5 @@
 -- Trees of expressions for examples, each beside what it does: one layer after another is opened, and what is left computes.
-use Rattle.std.proofs.Common.{◌≡◌, ℕ, List, [], ◌∷◌, map, Bool, Option, Some, None, refl, ap, ◌∙◌}
+use Rattle.std.proofs.Common.{◌≡◌, ℕ, List, [], ◌∷◌, map, Bool, Option, refl, ap, ◌∙◌}
 use Rattle.js_ast.specs.declared.operators.BinaryOp.{BinaryOp}
 use Rattle.js_ast.specs.declared.operators.LogicalOp.{LogicalOp}
 use Rattle.js_ast.specs.declared.operators.UnaryOp.{UnaryOp}
@@ -53,28 +53,43 @@ pairs (k ∷ ks) = pair k ∷ pairs ks
 
 pub same_pairs : (ks : List Known) → map with_expr (trees ks) ≡ pairs ks
 same_pairs [] = refl
-same_pairs (k ∷ ks) = ap {B = List (Expr × Meaning)} (λ p. p ∷ map with_expr (trees ks)) (same k) ∙ ap (λ ps. pair k ∷ ps) (same_pairs ks)
+same_pairs (k ∷ ks) =
+    ap {B = List (Expr × Meaning)} (λ p. p ∷ map with_expr (trees ks)) (same k) ∙ ap (λ ps. pair k ∷ ps) (same_pairs ks)
 
 abbrev pub array : ℕ → List Known → Known
-array site ks = record { tree = roll-Expr (Expr-F.Array site (trees ks)); does = _;
-    is = opens_expr (Expr-F.Array site (trees ks)) ∙ ap {B = Meaning} (λ ps. of_expr (Expr-F.Array site ps)) (same_pairs ks) }
+array site ks = record {
+  tree = roll-Expr (Expr-F.Array site (trees ks));
+  does = _;
+  is = opens_expr (Expr-F.Array site (trees ks))
+      ∙ ap {B = Meaning} (λ ps. of_expr (Expr-F.Array site ps)) (same_pairs ks);
+}
 
 abbrev pub new_ : ℕ → Identifier → List Known → Known
-new_ site name ks = record { tree = roll-Expr (Expr-F.New site name (trees ks)); does = _;
-    is = opens_expr (Expr-F.New site name (trees ks)) ∙ ap {B = Meaning} (λ ps. of_expr (Expr-F.New site name ps)) (same_pairs ks) }
+new_ site name ks = record {
+  tree = roll-Expr (Expr-F.New site name (trees ks));
+  does = _;
+  is = opens_expr (Expr-F.New site name (trees ks))
+      ∙ ap {B = Meaning} (λ ps. of_expr (Expr-F.New site name ps)) (same_pairs ks);
+}
 
 -- ---- operators
 
 abbrev pub unary : ℕ → UnaryOp → Known → Known
-unary site op k = record { tree = roll-Expr (Expr-F.Unary site op k.tree); does = _;
-    is = opens_expr (Expr-F.Unary site op k.tree) ∙ ap {B = Meaning} (λ p. of_expr (Expr-F.Unary site op p)) (same k) }
+unary site op k = record {
+  tree = roll-Expr (Expr-F.Unary site op k.tree);
+  does = _;
+  is = opens_expr (Expr-F.Unary site op k.tree) ∙ ap {B = Meaning} (λ p. of_expr (Expr-F.Unary site op p)) (same k);
+}
 
 abbrev pub conditional : ℕ → ℕ → Known → Known → Known → Known
-conditional start site t x y = record { tree = roll-Expr (Expr-F.Conditional start site t.tree x.tree y.tree); does = _;
-    is = opens_expr (Expr-F.Conditional start site t.tree x.tree y.tree)
-        ∙ ap {B = Meaning} (λ p. of_expr (Expr-F.Conditional start site p (with_expr x.tree) (with_expr y.tree))) (same t)
-        ∙ ap {B = Meaning} (λ p. of_expr (Expr-F.Conditional start site (pair t) p (with_expr y.tree))) (same x)
-        ∙ ap {B = Meaning} (λ p. of_expr (Expr-F.Conditional start site (pair t) (pair x) p)) (same y) }
+conditional start site t x y = record {
+  tree = roll-Expr (Expr-F.Conditional start site t.tree x.tree y.tree);
+  does = _;
+  is = opens_expr (Expr-F.Conditional start site t.tree x.tree y.tree)
+      ∙ ap {B = Meaning} (λ p. of_expr (Expr-F.Conditional start site p (with_expr x.tree) (with_expr y.tree))) (same t)
+      ∙ ap {B = Meaning} (λ p. of_expr (Expr-F.Conditional start site (pair t) p (with_expr y.tree))) (same x)
+      ∙ ap {B = Meaning} (λ p. of_expr (Expr-F.Conditional start site (pair t) (pair x) p)) (same y);
+}
 
 pub record KnownLink (O : Type 0) : Type 0 where
   pub site : ℕ
@@ -105,7 +120,8 @@ binary_links : {E S A : Type 0} → Expr-F E S A → List (Link BinaryOp E)
 binary_links (Expr-F.Binary first ls) = ls
 binary_links _ = []
 
-binary_map : (first : Expr) (ls : List (Link BinaryOp Expr)) → binary_links (map-Expr Expr Stmt Arm (Expr × Meaning) (Stmt × Meaning) (Arm × Arms) with_expr with_stmt with_arm (Expr-F.Binary first ls)) ≡ map link_with ls
+binary_map : (first : Expr) (ls : List (Link BinaryOp Expr)) →
+    binary_links (map-Expr Expr Stmt Arm (Expr × Meaning) (Stmt × Meaning) (Arm × Arms) with_expr with_stmt with_arm (Expr-F.Binary first ls)) ≡ map link_with ls
 unfolding binary_links
 binary_map first [] = refl
 binary_map first (l ∷ ls) = ap (λ ts. link_with l ∷ ts) (binary_map first ls)
@@ -114,19 +130,22 @@ logical_links : {E S A : Type 0} → Expr-F E S A → List (Link LogicalOp E)
 logical_links (Expr-F.Logical first ls) = ls
 logical_links _ = []
 
-logical_map : (first : Expr) (ls : List (Link LogicalOp Expr)) → logical_links (map-Expr Expr Stmt Arm (Expr × Meaning) (Stmt × Meaning) (Arm × Arms) with_expr with_stmt with_arm (Expr-F.Logical first ls)) ≡ map link_with ls
+logical_map : (first : Expr) (ls : List (Link LogicalOp Expr)) →
+    logical_links (map-Expr Expr Stmt Arm (Expr × Meaning) (Stmt × Meaning) (Arm × Arms) with_expr with_stmt with_arm (Expr-F.Logical first ls)) ≡ map link_with ls
 unfolding logical_links
 logical_map first [] = refl
 logical_map first (l ∷ ls) = ap (λ ts. link_with l ∷ ts) (logical_map first ls)
 
-pub binary_is : (k : Known) (ls : List (KnownLink BinaryOp)) → expr (roll-Expr (Expr-F.Binary k.tree (link_trees ls))) ≡ of_expr (Expr-F.Binary (pair k) (link_pairs ls))
+pub binary_is : (k : Known) (ls : List (KnownLink BinaryOp)) →
+    expr (roll-Expr (Expr-F.Binary k.tree (link_trees ls))) ≡ of_expr (Expr-F.Binary (pair k) (link_pairs ls))
 unfolding binary_links
 binary_is k ls = opens_expr (Expr-F.Binary k.tree (link_trees ls))
     ∙ ap {B = Meaning} (λ ts. of_expr (Expr-F.Binary (with_expr k.tree) ts)) (binary_map k.tree (link_trees ls))
     ∙ ap {B = Meaning} (λ p. of_expr (Expr-F.Binary p (map link_with (link_trees ls)))) (same k)
     ∙ ap {B = Meaning} (λ ts. of_expr (Expr-F.Binary (pair k) ts)) (same_links ls)
 
-pub logical_is : (k : Known) (ls : List (KnownLink LogicalOp)) → expr (roll-Expr (Expr-F.Logical k.tree (link_trees ls))) ≡ of_expr (Expr-F.Logical (pair k) (link_pairs ls))
+pub logical_is : (k : Known) (ls : List (KnownLink LogicalOp)) →
+    expr (roll-Expr (Expr-F.Logical k.tree (link_trees ls))) ≡ of_expr (Expr-F.Logical (pair k) (link_pairs ls))
 unfolding logical_links
 logical_is k ls = opens_expr (Expr-F.Logical k.tree (link_trees ls))
     ∙ ap {B = Meaning} (λ ts. of_expr (Expr-F.Logical (with_expr k.tree) ts)) (logical_map k.tree (link_trees ls))
@@ -134,10 +153,12 @@ logical_is k ls = opens_expr (Expr-F.Logical k.tree (link_trees ls))
     ∙ ap {B = Meaning} (λ ts. of_expr (Expr-F.Logical (pair k) ts)) (same_links ls)
 
 abbrev pub binary : Known → List (KnownLink BinaryOp) → Known
-binary k ls = record { tree = roll-Expr (Expr-F.Binary k.tree (link_trees ls)); does = of_expr (Expr-F.Binary (pair k) (link_pairs ls)); is = binary_is k ls }
+binary k ls =
+    record { tree = roll-Expr (Expr-F.Binary k.tree (link_trees ls)); does = of_expr (Expr-F.Binary (pair k) (link_pairs ls)); is = binary_is k ls }
 
 abbrev pub logical : Known → List (KnownLink LogicalOp) → Known
-logical k ls = record { tree = roll-Expr (Expr-F.Logical k.tree (link_trees ls)); does = of_expr (Expr-F.Logical (pair k) (link_pairs ls)); is = logical_is k ls }
+logical k ls =
+    record { tree = roll-Expr (Expr-F.Logical k.tree (link_trees ls)); does = of_expr (Expr-F.Logical (pair k) (link_pairs ls)); is = logical_is k ls }
 
 -- ---- object literals
 
@@ -179,20 +200,24 @@ members_in : {E S A : Type 0} → Expr-F E S A → List (Member E)
 members_in (Expr-F.Object site ms) = ms
 members_in _ = []
 
-members_map : (site : ℕ) (ms : List (Member Expr)) → members_in (map-Expr Expr Stmt Arm (Expr × Meaning) (Stmt × Meaning) (Arm × Arms) with_expr with_stmt with_arm (Expr-F.Object site ms)) ≡ map member_with ms
+members_map : (site : ℕ) (ms : List (Member Expr)) →
+    members_in (map-Expr Expr Stmt Arm (Expr × Meaning) (Stmt × Meaning) (Arm × Arms) with_expr with_stmt with_arm (Expr-F.Object site ms)) ≡ map member_with ms
 unfolding members_in
 members_map site [] = refl
 members_map site (member.Value at key e ∷ ms) = ap (λ ts. member.Value at key (with_expr e) ∷ ts) (members_map site ms)
-members_map site (member.Shorthand name ∷ ms) = ap {B = List (Member (Expr × Meaning))} (λ ts. member.Shorthand name ∷ ts) (members_map site ms)
+members_map site (member.Shorthand name ∷ ms) =
+    ap {B = List (Member (Expr × Meaning))} (λ ts. member.Shorthand name ∷ ts) (members_map site ms)
 
-pub object_is : (site : ℕ) (ms : List KnownMember) → expr (roll-Expr (Expr-F.Object site (member_trees ms))) ≡ of_expr (Expr-F.Object site (member_pairs ms))
+pub object_is : (site : ℕ) (ms : List KnownMember) →
+    expr (roll-Expr (Expr-F.Object site (member_trees ms))) ≡ of_expr (Expr-F.Object site (member_pairs ms))
 unfolding members_in
 object_is site ms = opens_expr (Expr-F.Object site (member_trees ms))
     ∙ ap {B = Meaning} (λ ts. of_expr (Expr-F.Object site ts)) (members_map site (member_trees ms))
     ∙ ap {B = Meaning} (λ ts. of_expr (Expr-F.Object site ts)) (same_members ms)
 
 abbrev pub object : ℕ → List KnownMember → Known
-object site ms = record { tree = roll-Expr (Expr-F.Object site (member_trees ms)); does = of_expr (Expr-F.Object site (member_pairs ms)); is = object_is site ms }
+object site ms =
+    record { tree = roll-Expr (Expr-F.Object site (member_trees ms)); does = of_expr (Expr-F.Object site (member_pairs ms)); is = object_is site ms }
 
 -- ---- properties, calls and targets
 
@@ -254,14 +279,19 @@ suffixes_in : {E S A : Type 0} → Expr-F E S A → List (Suffix E)
 suffixes_in (Expr-F.Call first xs) = xs
 suffixes_in _ = []
 
-suffixes_map : (first : Expr) (xs : List (Suffix Expr)) → suffixes_in (map-Expr Expr Stmt Arm (Expr × Meaning) (Stmt × Meaning) (Arm × Arms) with_expr with_stmt with_arm (Expr-F.Call first xs)) ≡ map suffix_with xs
+suffixes_map : (first : Expr) (xs : List (Suffix Expr)) →
+    suffixes_in (map-Expr Expr Stmt Arm (Expr × Meaning) (Stmt × Meaning) (Arm × Arms) with_expr with_stmt with_arm (Expr-F.Call first xs)) ≡ map suffix_with xs
 unfolding suffixes_in
 suffixes_map first [] = refl
-suffixes_map first (suffix.Access (access.Property site name) ∷ xs) = ap {B = List (Suffix (Expr × Meaning))} (λ ts. suffix.Access (access.Property site name) ∷ ts) (suffixes_map first xs)
-suffixes_map first (suffix.Access (access.Index site is_static e) ∷ xs) = ap (λ ts. suffix.Access (access.Index site is_static (with_expr e)) ∷ ts) (suffixes_map first xs)
-suffixes_map first (suffix.Call site es ∷ xs) = ap (λ ts. suffix.Call site (map with_expr es) ∷ ts) (suffixes_map first xs)
+suffixes_map first (suffix.Access (access.Property site name) ∷ xs) =
+    ap {B = List (Suffix (Expr × Meaning))} (λ ts. suffix.Access (access.Property site name) ∷ ts) (suffixes_map first xs)
+suffixes_map first (suffix.Access (access.Index site is_static e) ∷ xs) =
+    ap (λ ts. suffix.Access (access.Index site is_static (with_expr e)) ∷ ts) (suffixes_map first xs)
+suffixes_map first (suffix.Call site es ∷ xs) =
+    ap (λ ts. suffix.Call site (map with_expr es) ∷ ts) (suffixes_map first xs)
 
-pub call_is : (k : Known) (xs : List KnownSuffix) → expr (roll-Expr (Expr-F.Call k.tree (suffix_trees xs))) ≡ of_expr (Expr-F.Call (pair k) (suffix_pairs xs))
+pub call_is : (k : Known) (xs : List KnownSuffix) →
+    expr (roll-Expr (Expr-F.Call k.tree (suffix_trees xs))) ≡ of_expr (Expr-F.Call (pair k) (suffix_pairs xs))
 unfolding suffixes_in
 call_is k xs = opens_expr (Expr-F.Call k.tree (suffix_trees xs))
     ∙ ap {B = Meaning} (λ ts. of_expr (Expr-F.Call (with_expr k.tree) ts)) (suffixes_map k.tree (suffix_trees xs))
@@ -269,7 +299,8 @@ call_is k xs = opens_expr (Expr-F.Call k.tree (suffix_trees xs))
     ∙ ap {B = Meaning} (λ ts. of_expr (Expr-F.Call (pair k) ts)) (same_suffixes xs)
 
 abbrev pub call : Known → List KnownSuffix → Known
-call k xs = record { tree = roll-Expr (Expr-F.Call k.tree (suffix_trees xs)); does = of_expr (Expr-F.Call (pair k) (suffix_pairs xs)); is = call_is k xs }
+call k xs =
+    record { tree = roll-Expr (Expr-F.Call k.tree (suffix_trees xs)); does = of_expr (Expr-F.Call (pair k) (suffix_pairs xs)); is = call_is k xs }
 
 pub data KnownTarget : Type 0 where
   to_name : Identifier → KnownTarget
@@ -289,28 +320,43 @@ target_with (target.Access e a) = target.Access (with_expr e) (access_with a)
 
 same_target : (t : KnownTarget) → target_with (target_tree t) ≡ target_pair t
 same_target (to_name name) = refl
-same_target (to_property k a) = ap {B = Target (Expr × Meaning)} (λ p. target.Access p (access_with (access_tree a))) (same k) ∙ ap {B = Target (Expr × Meaning)} (λ b. target.Access (pair k) b) (same_access a)
+same_target (to_property k a) =
+    ap {B = Target (Expr × Meaning)} (λ p. target.Access p (access_with (access_tree a))) (same k)
+    ∙ ap {B = Target (Expr × Meaning)} (λ b. target.Access (pair k) b) (same_access a)
 
-step_opens : (start site : ℕ) (op : StepOp) (is_prefix : Bool) (t : Target Expr) → expr (roll-Expr (Expr-F.Step start site op is_prefix t)) ≡ of_expr (Expr-F.Step start site op is_prefix (target_with t))
-step_opens start site op is_prefix (target.Name name) = opens_expr (Expr-F.Step start site op is_prefix (target.Name name))
-step_opens start site op is_prefix (target.Access e (access.Property at name)) = opens_expr (Expr-F.Step start site op is_prefix (target.Access e (access.Property at name)))
-step_opens start site op is_prefix (target.Access e (access.Index at is_static k)) = opens_expr (Expr-F.Step start site op is_prefix (target.Access e (access.Index at is_static k)))
+step_opens : (start site : ℕ) (op : StepOp) (is_prefix : Bool) (t : Target Expr) →
+    expr (roll-Expr (Expr-F.Step start site op is_prefix t)) ≡ of_expr (Expr-F.Step start site op is_prefix (target_with t))
+step_opens start site op is_prefix (target.Name name) =
+    opens_expr (Expr-F.Step start site op is_prefix (target.Name name))
+step_opens start site op is_prefix (target.Access e (access.Property at name)) =
+    opens_expr (Expr-F.Step start site op is_prefix (target.Access e (access.Property at name)))
+step_opens start site op is_prefix (target.Access e (access.Index at is_static k)) =
+    opens_expr (Expr-F.Step start site op is_prefix (target.Access e (access.Index at is_static k)))
 
-pub step_is : (start site : ℕ) (op : StepOp) (is_prefix : Bool) (t : KnownTarget) → expr (roll-Expr (Expr-F.Step start site op is_prefix (target_tree t))) ≡ of_expr (Expr-F.Step start site op is_prefix (target_pair t))
-step_is start site op is_prefix t = step_opens start site op is_prefix (target_tree t) ∙ ap {B = Meaning} (λ u. of_expr (Expr-F.Step start site op is_prefix u)) (same_target t)
+pub step_is : (start site : ℕ) (op : StepOp) (is_prefix : Bool) (t : KnownTarget) →
+    expr (roll-Expr (Expr-F.Step start site op is_prefix (target_tree t))) ≡ of_expr (Expr-F.Step start site op is_prefix (target_pair t))
+step_is start site op is_prefix t =
+    step_opens start site op is_prefix (target_tree t)
+    ∙ ap {B = Meaning} (λ u. of_expr (Expr-F.Step start site op is_prefix u)) (same_target t)
 
 abbrev pub step : ℕ → ℕ → StepOp → Bool → KnownTarget → Known
-step start site op is_prefix t = record { tree = roll-Expr (Expr-F.Step start site op is_prefix (target_tree t)); does = of_expr (Expr-F.Step start site op is_prefix (target_pair t)); is = step_is start site op is_prefix t }
+step start site op is_prefix t =
+    record { tree = roll-Expr (Expr-F.Step start site op is_prefix (target_tree t)); does = of_expr (Expr-F.Step start site op is_prefix (target_pair t)); is = step_is start site op is_prefix t }
 
-assign_opens : (start site : ℕ) (op : Option BinaryOp) (t : Target Expr) (e : Expr) → expr (roll-Expr (Expr-F.Assign start site op t e)) ≡ of_expr (Expr-F.Assign start site op (target_with t) (with_expr e))
+assign_opens : (start site : ℕ) (op : Option BinaryOp) (t : Target Expr) (e : Expr) →
+    expr (roll-Expr (Expr-F.Assign start site op t e)) ≡ of_expr (Expr-F.Assign start site op (target_with t) (with_expr e))
 assign_opens start site op (target.Name name) e = opens_expr (Expr-F.Assign start site op (target.Name name) e)
-assign_opens start site op (target.Access x (access.Property at name)) e = opens_expr (Expr-F.Assign start site op (target.Access x (access.Property at name)) e)
-assign_opens start site op (target.Access x (access.Index at is_static k)) e = opens_expr (Expr-F.Assign start site op (target.Access x (access.Index at is_static k)) e)
+assign_opens start site op (target.Access x (access.Property at name)) e =
+    opens_expr (Expr-F.Assign start site op (target.Access x (access.Property at name)) e)
+assign_opens start site op (target.Access x (access.Index at is_static k)) e =
+    opens_expr (Expr-F.Assign start site op (target.Access x (access.Index at is_static k)) e)
 
-pub assign_is : (start site : ℕ) (op : Option BinaryOp) (t : KnownTarget) (k : Known) → expr (roll-Expr (Expr-F.Assign start site op (target_tree t) k.tree)) ≡ of_expr (Expr-F.Assign start site op (target_pair t) (pair k))
+pub assign_is : (start site : ℕ) (op : Option BinaryOp) (t : KnownTarget) (k : Known) →
+    expr (roll-Expr (Expr-F.Assign start site op (target_tree t) k.tree)) ≡ of_expr (Expr-F.Assign start site op (target_pair t) (pair k))
 assign_is start site op t k = assign_opens start site op (target_tree t) k.tree
     ∙ ap {B = Meaning} (λ u. of_expr (Expr-F.Assign start site op u (with_expr k.tree))) (same_target t)
     ∙ ap {B = Meaning} (λ p. of_expr (Expr-F.Assign start site op (target_pair t) p)) (same k)
 
 abbrev pub assign : ℕ → ℕ → Option BinaryOp → KnownTarget → Known → Known
-assign start site op t k = record { tree = roll-Expr (Expr-F.Assign start site op (target_tree t) k.tree); does = of_expr (Expr-F.Assign start site op (target_pair t) (pair k)); is = assign_is start site op t k }
+assign start site op t k =
+    record { tree = roll-Expr (Expr-F.Assign start site op (target_tree t) k.tree); does = of_expr (Expr-F.Assign start site op (target_pair t) (pair k)); is = assign_is start site op t k }

@@ -1,32 +1,26 @@
 -- Examples of runs that leave the profile.
-use Rattle.std.proofs.Common.{◌≡◌, ℕ, pos, negsuc, true, false, List, [], ◌∷◌, codes, Some, None, refl}
+use Rattle.std.proofs.Common.{◌≡◌, true, false, List, [], ◌∷◌, codes, Some, None, refl}
 use Rattle.std.specs.Fmt.{digits}
 use Rattle.path_core.specs.declared.path.ErrorName.TheVariants as fault
-use Rattle.path_core.specs.declared.path.InputValue.TheVariants as input
 use Rattle.path_core.specs.declared.path.Thrown.TheVariants as thrown
-use Rattle.path_core.specs.declared.path.Budget.TheVariants as budget
 use Rattle.path_core.specs.declared.path.Why.TheVariants as why
-use Rattle.path_core.specs.declared.path.End.TheVariants.{Done, Threw, Left, Cut}
+use Rattle.path_core.specs.declared.path.End.TheVariants.{Threw, Left}
 use Rattle.js_ast.specs.declared.operators.BinaryOp.TheVariants as op
 use Rattle.js_ast.specs.declared.operators.UnaryOp.TheVariants as un
-use Rattle.js_ast.specs.declared.operators.StepOp.TheVariants.{Increment, Decrement}
+use Rattle.js_ast.specs.declared.operators.StepOp.TheVariants.{Increment}
 use Rattle.js_ast.specs.declared.operators.LogicalOp.TheVariants as logic
-use Rattle.js_ast.specs.declared.operators.DeclarationKind.TheVariants.{Let, Const}
-use Rattle.js_ast.specs.declared.parts.Key.TheVariants as key
-use Rattle.js_ast.specs.declared.expression.Expr.TheOpen.{Expr-F, Stmt-F}
+use Rattle.js_ast.specs.declared.operators.DeclarationKind.TheVariants.{Let}
+use Rattle.js_ast.specs.declared.expression.Expr.TheOpen.{Expr-F}
 use Rattle.js_meaning.specs.Running.{count, turn, new_object}
 use Rattle.js_meaning.specs.Builtins.{call_builtin, construct}
 use Rattle.js_meaning.specs.Objects.{get_row, bracket_row, set_row}
 use Rattle.js_meaning.specs.Operators.{test_row, logical_row, binary_row, unary_row, step_row}
 use Rattle.js_meaning.specs.Names.{open_cell, init_name, find_name, read_name, put_name}
-use Rattle.js_meaning.proofs.Known.{Known, named, leaf, array, new_, unary, conditional, link, binary, logical, valued, short, object, dot, bracket, get, call_, call, to_name, to_property, step, assign}
-use Rattle.js_meaning.proofs.KnownStatements.{KnownStmt, stmt_trees, known_block, known_value, body_known, value_known, function_, arrow_block, still, braces, express, throw_, return_, declare_}
-use Rattle.js_meaning.proofs.KnownForms.{when, if_, if_else, while_, do_, for_of_, no_head, value_head, declare_head, for_, try_}
-use Rattle.js_meaning.proofs.Runs.{whole, branched, goes, uses, runs, path_is, steps_are}
+use Rattle.js_meaning.proofs.Known.{Known, named, leaf, array, new_, unary, conditional, link, binary, logical, object, dot, bracket, get, call_, call, to_name, to_property, step, assign}
+use Rattle.js_meaning.proofs.KnownStatements.{KnownStmt, express, declare_}
+use Rattle.js_meaning.proofs.KnownForms.{try_}
+use Rattle.js_meaning.proofs.Runs.{branched, goes, uses, path_is, steps_are}
 use Rattle.js_ast.specs.declared.expression.Expr.{Expr}
-use Rattle.js_ast.specs.declared.statement.Stmt.{Stmt}
-use Rattle.js_meaning.specs.Values.{statements, expression}
-use Rattle.js_meaning.specs.Meaning.{body_of}
 
 -- 9007199254740991 + 1;
 abbrev sum_script : List KnownStmt
@@ -137,8 +131,11 @@ abbrev inherited_of_function_script : Expr → List KnownStmt
 inherited_of_function_script t1 = (express 0 (call (leaf (Expr-F.Arrow 1 [] t1)) (get (dot 9 (codes "name")) ∷ [])) ∷
     [])
 
-inherited_of_function : goes 10 [] [] (inherited_of_function_script inherited_of_function_value_1.tree) ≡ ([], Left 9
-    why.Inherited 0 0)
+inherited_of_function : goes 10 [] [] (inherited_of_function_script inherited_of_function_value_1.tree) ≡ (
+  [],
+  Left 9
+      why.Inherited 0 0,
+)
 unfolding count turn new_object call_builtin construct get_row bracket_row set_row test_row logical_row binary_row unary_row step_row open_cell init_name find_name read_name put_name digits
 inherited_of_function = path_is 10 [] [] (inherited_of_function_script inherited_of_function_value_1.tree) refl
 
@@ -164,9 +161,11 @@ array_name_written = path_is 10 [] [] array_name_written_script refl
 
 -- try { null.x; } catch (e) { e.message; }
 abbrev engine_message_script : List KnownStmt
-engine_message_script = (try_ 0 (express 6 (call (leaf (Expr-F.Null 6)) (get (dot 10 (codes "x")) ∷ [])) ∷ []) (Some
-    ((Some (named 23 (codes "e"))), (express 28 (call (leaf (Expr-F.Name (named 28 (codes "e")))) (get (dot 29 (codes
-    "message")) ∷ [])) ∷ []))) None ∷ [])
+engine_message_script = (try_ 0 (express 6 (call (leaf (Expr-F.Null 6)) (get (dot 10 (codes "x")) ∷ [])) ∷ []) (Some (
+  (Some (named 23 (codes "e"))),
+  (express 28 (call (leaf (Expr-F.Name (named 28 (codes "e")))) (get (dot 29 (codes
+      "message")) ∷ [])) ∷ []),
+)) None ∷ [])
 
 engine_message : goes 10 [] [] engine_message_script ≡ ([], Left 29 why.Message 0 0)
 unfolding count turn new_object call_builtin construct get_row bracket_row set_row test_row logical_row binary_row unary_row step_row open_cell init_name find_name read_name put_name digits
@@ -428,3 +427,51 @@ early_new_script = (express 0 (new_ 0 (named 4 (codes "F")) []) ∷ declare_ 9 L
 early_new : goes 10 [] [] early_new_script ≡ ([], Threw 4 (thrown.Named fault.ReferenceError))
 unfolding count turn new_object call_builtin construct get_row bracket_row set_row test_row logical_row binary_row unary_row step_row open_cell init_name find_name read_name put_name digits
 early_new = path_is 10 [] [] early_new_script refl
+
+-- (1 ? "a".charAt : 0)(0);
+abbrev method_chosen_script : List KnownStmt
+method_chosen_script = (express 0 (call (conditional 1 3 (leaf (Expr-F.Number 1 1)) (call (leaf (Expr-F.Text 5 (codes
+    "a"))) (get (dot 8 (codes "charAt")) ∷ [])) (leaf (Expr-F.Number 18 0))) (call_ 20 (leaf (Expr-F.Number 21 0) ∷
+    []) ∷ [])) ∷ [])
+
+method_chosen : goes 10 [] [] method_chosen_script ≡ ((branched 3 1 ∷ []), Left 8 why.Builtin 0 0)
+unfolding count turn new_object call_builtin construct get_row bracket_row set_row test_row logical_row binary_row unary_row step_row open_cell init_name find_name read_name put_name digits
+method_chosen = path_is 10 [] [] method_chosen_script refl
+
+-- (0 || "a".charAt)(0);
+abbrev method_behind_or_script : List KnownStmt
+method_behind_or_script = (express 0 (call (logical (leaf (Expr-F.Number 1 0)) (link 3 logic.Or (call (leaf
+    (Expr-F.Text 6 (codes "a"))) (get (dot 9 (codes "charAt")) ∷ [])) ∷ [])) (call_ 17 (leaf (Expr-F.Number 18 0) ∷
+    []) ∷ [])) ∷ [])
+
+method_behind_or : goes 10 [] [] method_behind_or_script ≡ ((branched 3 0 ∷ []), Left 9 why.Builtin 0 0)
+unfolding count turn new_object call_builtin construct get_row bracket_row set_row test_row logical_row binary_row unary_row step_row open_cell init_name find_name read_name put_name digits
+method_behind_or = path_is 10 [] [] method_behind_or_script refl
+
+-- (0 || Object.keys)(0);
+abbrev listed_behind_or_script : List KnownStmt
+listed_behind_or_script = (express 0 (call (logical (leaf (Expr-F.Number 1 0)) (link 3 logic.Or (call (leaf
+    (Expr-F.Name (named 6 (codes "Object")))) (get (dot 12 (codes "keys")) ∷ [])) ∷ [])) (call_ 18 (leaf
+    (Expr-F.Number 19 0) ∷ []) ∷ [])) ∷ [])
+
+listed_behind_or : goes 10 [] [] listed_behind_or_script ≡ ((branched 3 0 ∷ []), Left 12 why.Builtin 0 0)
+unfolding count turn new_object call_builtin construct get_row bracket_row set_row test_row logical_row binary_row unary_row step_row open_cell init_name find_name read_name put_name digits
+listed_behind_or = path_is 10 [] [] listed_behind_or_script refl
+
+-- (Object.keys)(0);
+abbrev listed_in_parentheses_script : List KnownStmt
+listed_in_parentheses_script = (express 0 (call (call (leaf (Expr-F.Name (named 1 (codes "Object")))) (get (dot 7
+    (codes "keys")) ∷ [])) (call_ 13 (leaf (Expr-F.Number 14 0) ∷ []) ∷ [])) ∷ [])
+
+listed_in_parentheses : goes 10 [] [] listed_in_parentheses_script ≡ ([], Left 13 why.Builtin 0 0)
+unfolding count turn new_object call_builtin construct get_row bracket_row set_row test_row logical_row binary_row unary_row step_row open_cell init_name find_name read_name put_name digits
+listed_in_parentheses = path_is 10 [] [] listed_in_parentheses_script refl
+
+-- undefined[foo];
+abbrev name_in_brackets_script : List KnownStmt
+name_in_brackets_script = (express 0 (call (leaf (Expr-F.Name (named 0 (codes "undefined")))) (get (bracket 9 false
+    (leaf (Expr-F.Name (named 10 (codes "foo"))))) ∷ [])) ∷ [])
+
+name_in_brackets : goes 10 [] [] name_in_brackets_script ≡ ([], Left 10 why.Name 0 0)
+unfolding count turn new_object call_builtin construct get_row bracket_row set_row test_row logical_row binary_row unary_row step_row open_cell init_name find_name read_name put_name digits
+name_in_brackets = path_is 10 [] [] name_in_brackets_script refl

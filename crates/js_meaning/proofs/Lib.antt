@@ -12,3 +12,4 @@ pub mod Calls
 pub mod Bindings
 pub mod Limits
 pub mod RowsApart
+pub mod TextOrder

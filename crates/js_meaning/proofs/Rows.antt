@@ -1,31 +1,26 @@
 -- Worked examples: whole scripts, with the paths of some of their inputs.
-use Rattle.std.proofs.Common.{◌≡◌, ℕ, pos, negsuc, true, false, List, [], ◌∷◌, codes, Some, None, refl}
+use Rattle.std.proofs.Common.{◌≡◌, pos, negsuc, true, List, [], ◌∷◌, codes, Some, refl}
 use Rattle.std.specs.Fmt.{digits}
-use Rattle.path_core.specs.declared.path.ErrorName.TheVariants as fault
 use Rattle.path_core.specs.declared.path.InputValue.TheVariants as input
 use Rattle.path_core.specs.declared.path.Thrown.TheVariants as thrown
 use Rattle.path_core.specs.declared.path.Budget.TheVariants as budget
 use Rattle.path_core.specs.declared.path.Why.TheVariants as why
 use Rattle.path_core.specs.declared.path.End.TheVariants.{Done, Threw, Left, Cut}
 use Rattle.js_ast.specs.declared.operators.BinaryOp.TheVariants as op
-use Rattle.js_ast.specs.declared.operators.UnaryOp.TheVariants as un
-use Rattle.js_ast.specs.declared.operators.StepOp.TheVariants.{Increment, Decrement}
-use Rattle.js_ast.specs.declared.operators.LogicalOp.TheVariants as logic
-use Rattle.js_ast.specs.declared.operators.DeclarationKind.TheVariants.{Let, Const}
-use Rattle.js_ast.specs.declared.parts.Key.TheVariants as key
-use Rattle.js_ast.specs.declared.expression.Expr.TheOpen.{Expr-F, Stmt-F}
+use Rattle.js_ast.specs.declared.operators.StepOp.TheVariants.{Increment}
+use Rattle.js_ast.specs.declared.operators.DeclarationKind.TheVariants.{Let}
+use Rattle.js_ast.specs.declared.expression.Expr.TheOpen.{Expr-F}
 use Rattle.js_meaning.specs.Running.{count, turn, new_object}
 use Rattle.js_meaning.specs.Builtins.{call_builtin, construct}
 use Rattle.js_meaning.specs.Objects.{get_row, bracket_row, set_row}
 use Rattle.js_meaning.specs.Operators.{test_row, logical_row, binary_row, unary_row, step_row}
 use Rattle.js_meaning.specs.Names.{open_cell, init_name, find_name, read_name, put_name}
-use Rattle.js_meaning.proofs.Known.{Known, named, leaf, array, new_, unary, conditional, link, binary, logical, valued, short, object, dot, bracket, get, call_, call, to_name, to_property, step, assign}
-use Rattle.js_meaning.proofs.KnownStatements.{KnownStmt, stmt_trees, known_block, known_value, body_known, value_known, function_, arrow_block, still, braces, express, throw_, return_, declare_}
-use Rattle.js_meaning.proofs.KnownForms.{when, if_, if_else, while_, do_, for_of_, no_head, value_head, declare_head, for_, try_}
+use Rattle.js_meaning.proofs.Known.{Known, named, leaf, link, binary, dot, get, call_, call, to_name, step}
+use Rattle.js_meaning.proofs.KnownStatements.{KnownStmt, known_value, value_known, braces, express, throw_, declare_}
+use Rattle.js_meaning.proofs.KnownForms.{when, if_, while_, try_}
 use Rattle.js_meaning.proofs.Runs.{whole, branched, goes, uses, runs, path_is, steps_are}
 use Rattle.js_ast.specs.declared.expression.Expr.{Expr}
-use Rattle.js_ast.specs.declared.statement.Stmt.{Stmt}
-use Rattle.js_meaning.specs.Values.{statements, expression}
+use Rattle.js_meaning.specs.Values.{expression}
 use Rattle.js_meaning.specs.Meaning.{body_of}
 
 -- the empty script
@@ -45,13 +40,19 @@ abbrev five_of_0_script : List KnownStmt
 five_of_0_script = (if_ (when 0 (binary (leaf (Expr-F.Name (named 4 (codes "n")))) (link 6 op.Equal (leaf
     (Expr-F.Number 10 5)) ∷ [])) (braces 13 []) ∷ []) ∷ [])
 
-five_of_0 : goes 10 (whole (codes "n") (pos 0) (pos 7) ∷ []) (input.Int (pos 0) ∷ []) five_of_0_script ≡ ((branched 0
-    0 ∷ []), Done)
+five_of_0 : goes 10 (whole (codes "n") (pos 0) (pos 7) ∷ []) (input.Int (pos 0) ∷ []) five_of_0_script ≡ (
+  (branched 0
+      0 ∷ []),
+  Done,
+)
 unfolding count turn new_object call_builtin construct get_row bracket_row set_row test_row logical_row binary_row unary_row step_row open_cell init_name find_name read_name put_name digits
 five_of_0 = path_is 10 (whole (codes "n") (pos 0) (pos 7) ∷ []) (input.Int (pos 0) ∷ []) five_of_0_script refl
 
-five_of_5 : goes 10 (whole (codes "n") (pos 0) (pos 7) ∷ []) (input.Int (pos 5) ∷ []) five_of_0_script ≡ ((branched 0
-    1 ∷ []), Done)
+five_of_5 : goes 10 (whole (codes "n") (pos 0) (pos 7) ∷ []) (input.Int (pos 5) ∷ []) five_of_0_script ≡ (
+  (branched 0
+      1 ∷ []),
+  Done,
+)
 unfolding count turn new_object call_builtin construct get_row bracket_row set_row test_row logical_row binary_row unary_row step_row open_cell init_name find_name read_name put_name digits
 five_of_5 = path_is 10 (whole (codes "n") (pos 0) (pos 7) ∷ []) (input.Int (pos 5) ∷ []) five_of_0_script refl
 
@@ -77,8 +78,11 @@ nested_of_4 = path_is 10 (whole (codes "n") (pos 0) (pos 4) ∷ []) (input.Int (
 
 -- let t = n + 1;
 abbrev most_but_one_script : List KnownStmt
-most_but_one_script = (declare_ 0 Let ((named 4 (codes "t"), (Some (binary (leaf (Expr-F.Name (named 8 (codes "n"))))
-    (link 10 op.Add (leaf (Expr-F.Number 12 1)) ∷ [])))) ∷ []) ∷ [])
+most_but_one_script = (declare_ 0 Let ((
+  named 4 (codes "t"),
+  (Some (binary (leaf (Expr-F.Name (named 8 (codes "n"))))
+      (link 10 op.Add (leaf (Expr-F.Number 12 1)) ∷ []))),
+) ∷ []) ∷ [])
 
 most_but_one : goes 10 (whole (codes "n") (pos 9007199254740990) (pos 9007199254740991) ∷ []) (input.Int (pos
     9007199254740990) ∷ []) most_but_one_script ≡ ([], Done)
@@ -96,15 +100,21 @@ most = path_is 10 (whole (codes "n") (pos 9007199254740990) (pos 900719925474099
 abbrev endless_script : List KnownStmt
 endless_script = (while_ 0 (leaf (Expr-F.True 7)) (braces 13 []) ∷ [])
 
-endless : goes 10 [] [] endless_script ≡ ((branched 0 1 ∷ branched 0 1 ∷ branched 0 1 ∷ branched 0 1 ∷ branched 0 1 ∷
-    branched 0 1 ∷ branched 0 1 ∷ branched 0 1 ∷ branched 0 1 ∷ branched 0 1 ∷ branched 0 1 ∷ []), Cut 0 budget.Turns)
+endless : goes 10 [] [] endless_script ≡ (
+  (branched 0 1 ∷ branched 0 1 ∷ branched 0 1 ∷ branched 0 1 ∷ branched 0 1 ∷
+      branched 0 1 ∷ branched 0 1 ∷ branched 0 1 ∷ branched 0 1 ∷ branched 0 1 ∷ branched 0 1 ∷ []),
+  Cut 0 budget.Turns,
+)
 unfolding count turn new_object call_builtin construct get_row bracket_row set_row test_row logical_row binary_row unary_row step_row open_cell init_name find_name read_name put_name digits
 endless = path_is 10 [] [] endless_script refl
 
 -- try { null.x } catch (e) { throw 1 } finally { }
 abbrev replaced_script : List KnownStmt
-replaced_script = (try_ 0 (express 6 (call (leaf (Expr-F.Null 6)) (get (dot 10 (codes "x")) ∷ [])) ∷ []) (Some ((Some
-    (named 22 (codes "e"))), (throw_ 27 (leaf (Expr-F.Number 33 1)) ∷ []))) (Some []) ∷ [])
+replaced_script = (try_ 0 (express 6 (call (leaf (Expr-F.Null 6)) (get (dot 10 (codes "x")) ∷ [])) ∷ []) (Some (
+  (Some
+      (named 22 (codes "e"))),
+  (throw_ 27 (leaf (Expr-F.Number 33 1)) ∷ []),
+)) (Some []) ∷ [])
 
 replaced : goes 10 [] [] replaced_script ≡ ([], Threw 27 thrown.Value)
 unfolding count turn new_object call_builtin construct get_row bracket_row set_row test_row logical_row binary_row unary_row step_row open_cell init_name find_name read_name put_name digits
@@ -127,10 +137,16 @@ twice_of_least_value_1 = binary (leaf (Expr-F.Name (named 13 (codes "x")))) (lin
     17 1)) ∷ [])
 
 abbrev twice_of_least_script : Expr → List KnownStmt
-twice_of_least_script t1 = (declare_ 0 Let ((named 4 (codes "f"), (Some (leaf (Expr-F.Arrow 8 ((named 8 (codes "x")) ∷
-    []) t1)))) ∷ []) ∷ declare_ 20 Let ((named 24 (codes "t"), (Some (call (leaf (Expr-F.Name (named 28 (codes "f"))))
-    (call_ 29 (call (leaf (Expr-F.Name (named 30 (codes "f")))) (call_ 31 (leaf (Expr-F.Name (named 32 (codes "n"))) ∷
-    []) ∷ []) ∷ []) ∷ [])))) ∷ []) ∷ [])
+twice_of_least_script t1 = (declare_ 0 Let ((
+  named 4 (codes "f"),
+  (Some (leaf (Expr-F.Arrow 8 ((named 8 (codes "x")) ∷
+      []) t1))),
+) ∷ []) ∷ declare_ 20 Let ((
+  named 24 (codes "t"),
+  (Some (call (leaf (Expr-F.Name (named 28 (codes "f"))))
+      (call_ 29 (call (leaf (Expr-F.Name (named 30 (codes "f")))) (call_ 31 (leaf (Expr-F.Name (named 32 (codes "n"))) ∷
+      []) ∷ []) ∷ []) ∷ []))),
+) ∷ []) ∷ [])
 
 twice_of_least_run : (t1 : Expr) → body_of (expression t1) ≡ known_value twice_of_least_value_1 → runs 2 (whole (codes
     "n") (negsuc 9007199254740990) (negsuc 9007199254740988) ∷ []) (input.Int (negsuc 9007199254740990) ∷ [])
@@ -149,8 +165,11 @@ abbrev behind_a_return_value_1 : Known
 behind_a_return_value_1 = leaf (Expr-F.Name (named 13 (codes "x")))
 
 abbrev behind_a_return_script : Expr → List KnownStmt
-behind_a_return_script t1 = (declare_ 0 Let ((named 4 (codes "f"), (Some (leaf (Expr-F.Arrow 8 ((named 8 (codes "x"))
-    ∷ []) t1)))) ∷ []) ∷ express 16 (binary (call (leaf (Expr-F.Name (named 16 (codes "f")))) (call_ 17 (leaf
+behind_a_return_script t1 = (declare_ 0 Let ((
+  named 4 (codes "f"),
+  (Some (leaf (Expr-F.Arrow 8 ((named 8 (codes "x"))
+      ∷ []) t1))),
+) ∷ []) ∷ express 16 (binary (call (leaf (Expr-F.Name (named 16 (codes "f")))) (call_ 17 (leaf
     (Expr-F.Number 18 1) ∷ []) ∷ [])) (link 21 op.Add (leaf (Expr-F.Number 23 9007199254740991)) ∷ [])) ∷ [])
 
 behind_a_return_run : (t1 : Expr) → body_of (expression t1) ≡ known_value behind_a_return_value_1 → runs 1 [] []

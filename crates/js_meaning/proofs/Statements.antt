@@ -1,31 +1,26 @@
 -- Examples of statements.
-use Rattle.std.proofs.Common.{◌≡◌, ℕ, pos, negsuc, true, false, List, [], ◌∷◌, codes, Some, None, refl}
+use Rattle.std.proofs.Common.{◌≡◌, false, List, [], ◌∷◌, codes, Some, None, refl}
 use Rattle.std.specs.Fmt.{digits}
 use Rattle.path_core.specs.declared.path.ErrorName.TheVariants as fault
-use Rattle.path_core.specs.declared.path.InputValue.TheVariants as input
 use Rattle.path_core.specs.declared.path.Thrown.TheVariants as thrown
 use Rattle.path_core.specs.declared.path.Budget.TheVariants as budget
 use Rattle.path_core.specs.declared.path.Why.TheVariants as why
 use Rattle.path_core.specs.declared.path.End.TheVariants.{Done, Threw, Left, Cut}
 use Rattle.js_ast.specs.declared.operators.BinaryOp.TheVariants as op
-use Rattle.js_ast.specs.declared.operators.UnaryOp.TheVariants as un
-use Rattle.js_ast.specs.declared.operators.StepOp.TheVariants.{Increment, Decrement}
-use Rattle.js_ast.specs.declared.operators.LogicalOp.TheVariants as logic
+use Rattle.js_ast.specs.declared.operators.StepOp.TheVariants.{Increment}
 use Rattle.js_ast.specs.declared.operators.DeclarationKind.TheVariants.{Let, Const}
-use Rattle.js_ast.specs.declared.parts.Key.TheVariants as key
 use Rattle.js_ast.specs.declared.expression.Expr.TheOpen.{Expr-F, Stmt-F}
 use Rattle.js_meaning.specs.Running.{count, turn, new_object}
 use Rattle.js_meaning.specs.Builtins.{call_builtin, construct}
 use Rattle.js_meaning.specs.Objects.{get_row, bracket_row, set_row}
 use Rattle.js_meaning.specs.Operators.{test_row, logical_row, binary_row, unary_row, step_row}
 use Rattle.js_meaning.specs.Names.{open_cell, init_name, find_name, read_name, put_name}
-use Rattle.js_meaning.proofs.Known.{Known, named, leaf, array, new_, unary, conditional, link, binary, logical, valued, short, object, dot, bracket, get, call_, call, to_name, to_property, step, assign}
-use Rattle.js_meaning.proofs.KnownStatements.{KnownStmt, stmt_trees, known_block, known_value, body_known, value_known, function_, arrow_block, still, braces, express, throw_, return_, declare_}
+use Rattle.js_meaning.proofs.Known.{named, leaf, array, link, binary, dot, get, call_, call, to_name, step, assign}
+use Rattle.js_meaning.proofs.KnownStatements.{KnownStmt, stmt_trees, known_block, body_known, still, braces, express, throw_, return_, declare_}
 use Rattle.js_meaning.proofs.KnownForms.{when, if_, if_else, while_, do_, for_of_, no_head, value_head, declare_head, for_, try_}
-use Rattle.js_meaning.proofs.Runs.{whole, branched, goes, uses, runs, path_is, steps_are}
-use Rattle.js_ast.specs.declared.expression.Expr.{Expr}
+use Rattle.js_meaning.proofs.Runs.{branched, goes, uses, runs, path_is, steps_are}
 use Rattle.js_ast.specs.declared.statement.Stmt.{Stmt}
-use Rattle.js_meaning.specs.Values.{statements, expression}
+use Rattle.js_meaning.specs.Values.{statements}
 use Rattle.js_meaning.specs.Meaning.{body_of}
 
 -- let a = 1; { let a = 2; } if (a === 1) {}
@@ -139,8 +134,11 @@ while_break_script = (declare_ 0 Let ((named 4 (codes "i"), (Some (leaf (Expr-F.
     (leaf (Expr-F.Number 36 1)) ∷ [])) (still (Stmt-F.Break 39)) ∷ []) ∷ express 46 (step 46 47 Increment false
     (to_name (named 46 (codes "i")))) ∷ [])) ∷ [])
 
-while_break : goes 10 [] [] while_break_script ≡ ((branched 11 1 ∷ branched 26 0 ∷ branched 11 1 ∷ branched 26 1 ∷
-    []), Done)
+while_break : goes 10 [] [] while_break_script ≡ (
+  (branched 11 1 ∷ branched 26 0 ∷ branched 11 1 ∷ branched 26 1 ∷
+      []),
+  Done,
+)
 unfolding count turn new_object call_builtin construct get_row bracket_row set_row test_row logical_row binary_row unary_row step_row open_cell init_name find_name read_name put_name digits
 while_break = path_is 10 [] [] while_break_script refl
 
@@ -152,8 +150,11 @@ do_continue_script = (declare_ 0 Let ((named 4 (codes "i"), (Some (leaf (Expr-F.
     34)) ∷ []) ∷ [])) 46 (binary (leaf (Expr-F.Name (named 53 (codes "i")))) (link 55 op.Less (leaf (Expr-F.Number 57
     2)) ∷ [])) ∷ [])
 
-do_continue : goes 10 [] [] do_continue_script ≡ ((branched 21 1 ∷ branched 46 1 ∷ branched 21 0 ∷ branched 46 0 ∷
-    []), Done)
+do_continue : goes 10 [] [] do_continue_script ≡ (
+  (branched 21 1 ∷ branched 46 1 ∷ branched 21 0 ∷ branched 46 0 ∷
+      []),
+  Done,
+)
 unfolding count turn new_object call_builtin construct get_row bracket_row set_row test_row logical_row binary_row unary_row step_row open_cell init_name find_name read_name put_name digits
 do_continue = path_is 10 [] [] do_continue_script refl
 
@@ -277,8 +278,11 @@ return_from_loop_run : (ss1 : List Stmt) → body_of (statements ss1) ≡ known_
 unfolding count turn new_object call_builtin construct get_row bracket_row set_row test_row logical_row binary_row unary_row step_row open_cell init_name find_name read_name put_name digits
 return_from_loop_run ss1 p1 = rw p1 refl
 
-return_from_loop : goes 2 [] [] (return_from_loop_script (stmt_trees return_from_loop_body_1)) ≡ ((branched 15 1 ∷
-    branched 44 1 ∷ []), Done)
+return_from_loop : goes 2 [] [] (return_from_loop_script (stmt_trees return_from_loop_body_1)) ≡ (
+  (branched 15 1 ∷
+      branched 44 1 ∷ []),
+  Done,
+)
 return_from_loop = path_is 2 [] [] (return_from_loop_script (stmt_trees return_from_loop_body_1))
     (return_from_loop_run (stmt_trees return_from_loop_body_1) (body_known return_from_loop_body_1))
 
@@ -305,9 +309,12 @@ thrown_again = path_is 10 [] [] thrown_again_script refl
 
 -- try { throw 1; } catch (e) { if (e === 1) {} }
 abbrev catch_name_script : List KnownStmt
-catch_name_script = (try_ 0 (throw_ 6 (leaf (Expr-F.Number 12 1)) ∷ []) (Some ((Some (named 24 (codes "e"))), (if_
-    (when 29 (binary (leaf (Expr-F.Name (named 33 (codes "e")))) (link 35 op.Equal (leaf (Expr-F.Number 39 1)) ∷ []))
-    (braces 42 []) ∷ []) ∷ []))) None ∷ [])
+catch_name_script = (try_ 0 (throw_ 6 (leaf (Expr-F.Number 12 1)) ∷ []) (Some (
+  (Some (named 24 (codes "e"))),
+  (if_
+      (when 29 (binary (leaf (Expr-F.Name (named 33 (codes "e")))) (link 35 op.Equal (leaf (Expr-F.Number 39 1)) ∷ []))
+      (braces 42 []) ∷ []) ∷ []),
+)) None ∷ [])
 
 catch_name : goes 10 [] [] catch_name_script ≡ ((branched 29 1 ∷ []), Done)
 unfolding count turn new_object call_builtin construct get_row bracket_row set_row test_row logical_row binary_row unary_row step_row open_cell init_name find_name read_name put_name digits
@@ -327,8 +334,11 @@ through_call_body_1 = (throw_ 15 (leaf (Expr-F.Number 21 1)) ∷ [])
 
 abbrev through_call_script : List Stmt → List KnownStmt
 through_call_script ss1 = (still (Stmt-F.Function 0 (named 9 (codes "f")) [] ss1) ∷ try_ 26 (express 32 (call (leaf
-    (Expr-F.Name (named 32 (codes "f")))) (call_ 33 [] ∷ [])) ∷ []) (Some ((Some (named 46 (codes "e"))), (throw_ 51
-    (leaf (Expr-F.Number 57 2)) ∷ []))) None ∷ [])
+    (Expr-F.Name (named 32 (codes "f")))) (call_ 33 [] ∷ [])) ∷ []) (Some (
+      (Some (named 46 (codes "e"))),
+      (throw_ 51
+          (leaf (Expr-F.Number 57 2)) ∷ []),
+    )) None ∷ [])
 
 through_call_run : (ss1 : List Stmt) → body_of (statements ss1) ≡ known_block through_call_body_1 → runs 1 [] []
     (through_call_script ss1) ≡ ([], Threw 51 thrown.Value)
@@ -354,8 +364,11 @@ finally_replaces_run : (ss1 : List Stmt) → body_of (statements ss1) ≡ known_
 unfolding count turn new_object call_builtin construct get_row bracket_row set_row test_row logical_row binary_row unary_row step_row open_cell init_name find_name read_name put_name digits
 finally_replaces_run ss1 p1 = rw p1 refl
 
-finally_replaces : goes 1 [] [] (finally_replaces_script (stmt_trees finally_replaces_body_1)) ≡ ((branched 57 1 ∷
-    []), Done)
+finally_replaces : goes 1 [] [] (finally_replaces_script (stmt_trees finally_replaces_body_1)) ≡ (
+  (branched 57 1 ∷
+      []),
+  Done,
+)
 finally_replaces = path_is 1 [] [] (finally_replaces_script (stmt_trees finally_replaces_body_1))
     (finally_replaces_run (stmt_trees finally_replaces_body_1) (body_known finally_replaces_body_1))
 
@@ -412,3 +425,73 @@ calls_run_out_run ss1 p1 = rw p1 refl
 calls_run_out : goes 1 [] [] (calls_run_out_script (stmt_trees calls_run_out_body_1)) ≡ ([], Cut 16 budget.Turns)
 calls_run_out = path_is 1 [] [] (calls_run_out_script (stmt_trees calls_run_out_body_1)) (calls_run_out_run
     (stmt_trees calls_run_out_body_1) (body_known calls_run_out_body_1))
+
+-- function f() { for (;;) { return; } } let r = f(); if (r === undefined) {}
+abbrev return_alone_body_1 : List KnownStmt
+return_alone_body_1 = (for_ 15 no_head None None (braces 24 (still (Stmt-F.Return 26 None) ∷ [])) ∷ [])
+
+abbrev return_alone_script : List Stmt → List KnownStmt
+return_alone_script ss1 = (still (Stmt-F.Function 0 (named 9 (codes "f")) [] ss1) ∷ declare_ 38 Let ((
+  named 42 (codes
+      "r"),
+  (Some (call (leaf (Expr-F.Name (named 46 (codes "f")))) (call_ 47 [] ∷ []))),
+) ∷ []) ∷ if_ (when 51 (binary
+    (leaf (Expr-F.Name (named 55 (codes "r")))) (link 57 op.Equal (leaf (Expr-F.Name (named 61 (codes "undefined"))))
+    ∷ [])) (braces 72 []) ∷ []) ∷ [])
+
+return_alone_run : (ss1 : List Stmt) → body_of (statements ss1) ≡ known_block return_alone_body_1 → runs 2 [] []
+    (return_alone_script ss1) ≡ ((branched 51 1 ∷ []), Done)
+unfolding count turn new_object call_builtin construct get_row bracket_row set_row test_row logical_row binary_row unary_row step_row open_cell init_name find_name read_name put_name digits
+return_alone_run ss1 p1 = rw p1 refl
+
+return_alone : goes 2 [] [] (return_alone_script (stmt_trees return_alone_body_1)) ≡ ((branched 51 1 ∷ []), Done)
+return_alone = path_is 2 [] [] (return_alone_script (stmt_trees return_alone_body_1)) (return_alone_run (stmt_trees
+    return_alone_body_1) (body_known return_alone_body_1))
+
+-- let r = 1; { r = f; function f() {} } f;
+abbrev block_functions_body_1 : List KnownStmt
+block_functions_body_1 = []
+
+abbrev block_functions_script : List Stmt → List KnownStmt
+block_functions_script ss1 = (declare_ 0 Let ((named 4 (codes "r"), (Some (leaf (Expr-F.Number 8 1)))) ∷ []) ∷ braces
+    11 (express 13 (assign 13 15 None (to_name (named 13 (codes "r"))) (leaf (Expr-F.Name (named 17 (codes "f"))))) ∷
+    still (Stmt-F.Function 20 (named 29 (codes "f")) [] ss1) ∷ []) ∷ express 38 (leaf (Expr-F.Name (named 38 (codes
+    "f")))) ∷ [])
+
+block_functions : goes 10 [] [] (block_functions_script (stmt_trees block_functions_body_1)) ≡ (
+  [],
+  Left 38 why.Name 0
+      0,
+)
+unfolding count turn new_object call_builtin construct get_row bracket_row set_row test_row logical_row binary_row unary_row step_row open_cell init_name find_name read_name put_name digits
+block_functions = path_is 10 [] [] (block_functions_script (stmt_trees block_functions_body_1)) refl
+
+-- for (const x of [1]) continue;
+abbrev of_live_index_script : List KnownStmt
+of_live_index_script = (for_of_ 0 Const (named 11 (codes "x")) (array 16 (leaf (Expr-F.Number 17 1) ∷ [])) (still
+    (Stmt-F.Continue 21)) ∷ [])
+
+of_live_index : goes 10 [] [] of_live_index_script ≡ ([], Done)
+unfolding count turn new_object call_builtin construct get_row bracket_row set_row test_row logical_row binary_row unary_row step_row open_cell init_name find_name read_name put_name digits
+of_live_index = path_is 10 [] [] of_live_index_script refl
+
+-- for (const x of [1, 2]) {}
+abbrev of_turns_run_out_script : List KnownStmt
+of_turns_run_out_script = (for_of_ 0 Const (named 11 (codes "x")) (array 16 (leaf (Expr-F.Number 17 1) ∷ leaf
+    (Expr-F.Number 20 2) ∷ [])) (braces 24 []) ∷ [])
+
+of_turns_run_out : goes 1 [] [] of_turns_run_out_script ≡ ([], Cut 0 budget.Turns)
+unfolding count turn new_object call_builtin construct get_row bracket_row set_row test_row logical_row binary_row unary_row step_row open_cell init_name find_name read_name put_name digits
+of_turns_run_out = path_is 1 [] [] of_turns_run_out_script refl
+
+-- try { throw 1; } catch (e) { throw 2; } finally { if (1) {} }
+abbrev catch_finally_script : List KnownStmt
+catch_finally_script = (try_ 0 (throw_ 6 (leaf (Expr-F.Number 12 1)) ∷ []) (Some (
+  (Some (named 24 (codes "e"))),
+  (throw_ 29 (leaf (Expr-F.Number 35 2)) ∷ []),
+)) (Some (if_ (when 50 (leaf (Expr-F.Number 54 1)) (braces 57 []) ∷
+    []) ∷ [])) ∷ [])
+
+catch_finally : goes 10 [] [] catch_finally_script ≡ ((branched 50 1 ∷ []), Threw 29 thrown.Value)
+unfolding count turn new_object call_builtin construct get_row bracket_row set_row test_row logical_row binary_row unary_row step_row open_cell init_name find_name read_name put_name digits
+catch_finally = path_is 10 [] [] catch_finally_script refl

@@ -1,6 +1,6 @@
 -- What each row has to show by itself: between two of its events no exit is passed twice, and none is ended at that was
 -- passed. So an end tells which guard failed.
-use Rattle.std.specs.Prelude.{◌≡◌, ℕ, ◌⊎◌, List, [], ◌∷◌, Result, Ok, Err}
+use Rattle.std.specs.Prelude.{◌≡◌, ℕ, ◌⊎◌, List, [], ◌∷◌, Ok, Err}
 use Rattle.path_core.specs.declared.path.End.{End}
 use Rattle.path_core.specs.declared.path.End.TheVariants.{Left}
 use Rattle.path_core.specs.declared.path.Why.{Why}

@@ -1,12 +1,12 @@
 -- Blocks: the names that they declare, what is done on entry, statements one after the other, and functions made and entered.
-use Rattle.std.specs.Prelude.{ℕ, Bool, true, false, List, [], ◌∷◌, ◌++◌, map, Option, Some, None}
+use Rattle.std.specs.Prelude.{ℕ, Bool, true, false, List, [], ◌∷◌, ◌++◌, Option, Some, None}
 use Rattle.js_ast.specs.declared.expression.Expr.TheOpen.{Stmt-F}
 use Rattle.js_ast.specs.declared.statement.Stmt.{Stmt, out-Stmt}
 use Rattle.js_ast.specs.declared.operators.DeclarationKind.{DeclarationKind}
 use Rattle.js_ast.specs.declared.operators.DeclarationKind.TheVariants.{Let, Const}
 use Rattle.js_ast.specs.declared.parts.Declarator.{Declarator}
 use Rattle.js_ast.specs.declared.parts.Identifier.{Identifier}
-use Rattle.js_meaning.specs.Values.{Text, Value, undefined, Scope, Body, statements, expression, Code, Place}
+use Rattle.js_meaning.specs.Values.{Text, Value, undefined, Scope, Body, statements, Code, Place}
 use Rattle.js_meaning.specs.Running.{Outcome, done, bind, given, normal, on_value, on_normal, turn}
 use Rattle.js_meaning.specs.Names.{open_cell, init_name}
 use Rattle.js_meaning.specs.Parts.{Meaning, make_function}
@@ -43,23 +43,26 @@ names_of (s ∷ ss) = declared_by (out-Stmt s) ++ names_of ss
 -- a binding for each, not initialised, at the site of its name
 abbrev pub open_names : List Declaration → Scope → Place → (Scope → Place → Outcome) → Outcome
 open_names [] scope st go = go scope st
-open_names (d ∷ ds) scope st go = open_cell d.site d.name d.is_mutable None scope st (λ scope st. open_names ds scope st go)
+open_names (d ∷ ds) scope st go =
+    open_cell d.site d.name d.is_mutable None scope st (λ scope st. open_names ds scope st go)
 
 -- ---- functions are made
 
 -- a function has the `this` of its call, an arrow the one around it (10.2.3, OrdinaryFunctionCreate)
 abbrev pub plain_code : List Identifier → List Stmt → Scope → Code
-plain_code parameters body scope = record { parameters = parameters; body = statements body; is_arrow = false; scope = scope }
+plain_code parameters body scope =
+    record { parameters = parameters; body = statements body; is_arrow = false; scope = scope }
 
 abbrev pub arrow_code : List Identifier → Body → Scope → Code
 arrow_code parameters body scope = record { parameters = parameters; body = body; is_arrow = true; scope = scope }
 
 -- InstantiateOrdinaryFunctionExpression (15.2.5): its own name, which may not be assigned, is bound around it
 abbrev pub function_expression : ℕ → Option Identifier → List Identifier → List Stmt → Scope → Place → Outcome
-function_expression site None parameters body scope st = make_function site (plain_code parameters body scope) st (λ f st. done st (given f))
+function_expression site None parameters body scope st =
+    make_function site (plain_code parameters body scope) st (λ f st. done st (given f))
 function_expression site (Some name) parameters body scope st =
     open_cell name.site name.name false None scope st (λ scope st.
-        make_function site (plain_code parameters body scope) st (λ f st. done (init_name name.name scope f st) (given f)))
+    make_function site (plain_code parameters body scope) st (λ f st. done (init_name name.name scope f st) (given f)))
 
 abbrev pub start_function : {E A : Type 0} → Stmt-F E Stmt A → Scope → Place → (Place → Outcome) → Outcome
 start_function (Stmt-F.Function site name parameters body) scope st go =
@@ -96,7 +99,8 @@ initial run (Some e) calls k scope st = run e calls k scope st
 abbrev pub declare : {E : Type 0} → (E → Meaning) → List (Declarator E) → Meaning
 declare run [] calls k scope st = done st normal
 declare run (d ∷ ds) calls k scope st =
-    bind (initial run d.value calls k scope st) (on_value (λ x st. declare run ds calls k scope (init_name d.name.name scope x st)))
+    bind (initial run d.value calls k scope st) (on_value
+    (λ x st. declare run ds calls k scope (init_name d.name.name scope x st)))
 
 -- ---- functions are entered
 
@@ -122,4 +126,5 @@ with_this false this scope = record scope { this = this }
 
 -- a call takes a turn; then the scope of its function, with its `this` and its parameters (10.2.1)
 abbrev pub activate : ℕ → Code → Value → List Value → Place → (Scope → Place → Outcome) → Outcome
-activate site code this xs st go = turn site st (λ st. open_parameters code.parameters xs (with_this code.is_arrow this code.scope) st go)
+activate site code this xs st go =
+    turn site st (λ st. open_parameters code.parameters xs (with_this code.is_arrow this code.scope) st go)

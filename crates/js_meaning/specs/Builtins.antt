@@ -1,6 +1,6 @@
 -- The table of built-ins: the names that the profile knows, what each of them is, and what a call of it does. So far it
 -- holds `undefined` and `NaN` alone; every other use of a name or a method of the table leaves the profile.
-use Rattle.std.specs.Prelude.{ℕ, Bool, true, false, ◌&&◌, ◌||◌, bytes_eq, List, [], ◌∷◌, Option, Some, None, codes, if◌then◌else◌}
+use Rattle.std.specs.Prelude.{ℕ, Bool, ◌&&◌, ◌||◌, bytes_eq, List, [], ◌∷◌, Option, Some, None, codes, if◌then◌else◌}
 use Rattle.std.specs.List.{list_any}
 use Rattle.path_core.specs.declared.path.Why.TheVariants as why
 use Rattle.js_meaning.specs.Values.{Text, Value, undefined, nan, Place}
@@ -16,7 +16,8 @@ abbrev pub error_names : List Text
 error_names = codes "Error" ∷ codes "TypeError" ∷ codes "RangeError" ∷ codes "ReferenceError" ∷ []
 
 abbrev pub builtin_names : List Text
-builtin_names = codes "undefined" ∷ codes "NaN" ∷ codes "parseInt" ∷ codes "String" ∷ codes "Object" ∷ codes "Array" ∷ error_names
+builtin_names =
+    codes "undefined" ∷ codes "NaN" ∷ codes "parseInt" ∷ codes "String" ∷ codes "Object" ∷ codes "Array" ∷ error_names
 
 abbrev pub is_builtin : Text → Bool
 is_builtin name = among name builtin_names

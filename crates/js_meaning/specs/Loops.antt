@@ -6,7 +6,7 @@ use Rattle.path_core.specs.declared.path.Budget.TheVariants as budget
 use Rattle.path_core.specs.declared.path.End.TheVariants.{Cut}
 use Rattle.js_ast.specs.declared.parts.Identifier.{Identifier}
 use Rattle.js_meaning.specs.Values.{Text, Value, text, object, Scope, Binding, Object, Place}
-use Rattle.js_meaning.specs.Running.{Completion, normal, breaks, continues, throws, stops, Outcome, done, bind, leaves, turn, throw_error, on_value}
+use Rattle.js_meaning.specs.Running.{Completion, normal, breaks, continues, stops, Outcome, done, bind, leaves, turn, throw_error, on_value}
 use Rattle.js_meaning.specs.Objects.{object_at, is_array}
 use Rattle.js_meaning.specs.Names.{open_cell, binding_of}
 use Rattle.js_meaning.specs.Parts.{branch}
@@ -43,7 +43,8 @@ tested site body again x st = branch site x st (round_if site body again)
 
 abbrev pub while_loop : ℕ → ℕ → Part → Part → Scope → Place → Outcome
 while_loop zero site test body scope st = spent site st
-while_loop (suc k) site test body scope st = bind (test k scope st) (on_value (tested site (body k scope) (while_loop k site test body scope)))
+while_loop (suc k) site test body scope st =
+    bind (test k scope st) (on_value (tested site (body k scope) (while_loop k site test body scope)))
 
 -- ---- `do` (14.7.2.2): the test is at its own word, the turn at `do`
 
@@ -54,7 +55,8 @@ again_if again false st = done st normal
 -- behind the body: the test, and another round or the end
 abbrev pub do_again : ℕ → ℕ → ℕ → Part → (Place → Outcome) → Scope → Place → Outcome
 do_again zero site test_site test next scope st = spent site st
-do_again (suc k) site test_site test next scope st = bind (test k scope st) (on_value (λ x st. branch test_site x st (again_if next)))
+do_again (suc k) site test_site test next scope st =
+    bind (test k scope st) (on_value (λ x st. branch test_site x st (again_if next)))
 
 abbrev pub do_loop : ℕ → ℕ → ℕ → Part → Part → Scope → Place → Outcome
 do_loop zero site test_site test body scope st = spent site st
@@ -77,7 +79,8 @@ value_of name scope st = value_found st.cells (binding_of scope name st)
 -- CreatePerIterationEnvironment (14.7.4.4): fresh bindings with the values of the last ones
 abbrev pub copy_cells : List Declaration → Scope → Scope → Place → (Scope → Place → Outcome) → Outcome
 copy_cells [] last scope st go = go scope st
-copy_cells (d ∷ ds) last scope st go = open_cell d.site d.name true (value_of d.name last st) scope st (λ scope st. copy_cells ds last scope st go)
+copy_cells (d ∷ ds) last scope st go =
+    open_cell d.site d.name true (value_of d.name last st) scope st (λ scope st. copy_cells ds last scope st go)
 
 -- where no name is copied, the loop stays in its scope
 abbrev pub next_scope : List Declaration → Scope → Scope → Place → (Scope → Place → Outcome) → Outcome
@@ -90,9 +93,11 @@ update_then None k scope go st = go st
 update_then (Some update) k scope go st = bind (update k scope st) (on_value (λ x st. go st))
 
 -- behind the body: fresh bindings, the update, and the next test
-abbrev pub for_again : ℕ → ℕ → List Declaration → Option Part → (Scope → Place → Outcome) → Scope → Scope → Place → Outcome
+abbrev pub for_again : ℕ → ℕ → List Declaration → Option Part → (Scope → Place → Outcome) → Scope → Scope → Place →
+    Outcome
 for_again zero site names update next outer scope st = spent site st
-for_again (suc k) site names update next outer scope st = next_scope names scope outer st (λ scope st. update_then update k scope (next scope) st)
+for_again (suc k) site names update next outer scope st =
+    next_scope names scope outer st (λ scope st. update_then update k scope (next scope) st)
 
 -- with no test there is no event
 abbrev pub test_then : Option Part → ℕ → ℕ → Scope → (Place → Outcome) → (Place → Outcome) → Place → Outcome
@@ -103,7 +108,8 @@ test_then (Some test) k site scope body again st = bind (test k scope st) (on_va
 abbrev pub for_loop : ℕ → ℕ → List Declaration → Option Part → Option Part → Part → Scope → Scope → Place → Outcome
 for_loop zero site names test update body outer scope st = spent site st
 for_loop (suc k) site names test update body outer scope st =
-    test_then test k site scope (body k scope) (for_again k site names update (for_loop k site names test update body outer) outer scope) st
+    test_then test k site scope (body k scope) (for_again k site names update
+    (for_loop k site names test update body outer) outer scope) st
 
 -- ---- for-of (14.7.5), over arrays: the item at the index, as the array stands at each round
 
@@ -119,12 +125,13 @@ abbrev pub of_loop : ℕ → ℕ → Declaration → Part → ℕ → ℕ → Sc
 of_loop zero site name body o i scope st = spent site st
 of_loop (suc k) site name body o i scope st =
     with_item (item_at st.objects o i) st (λ st. done st normal)
-        (λ x st. turn site st (λ st. open_cell name.site name.name name.is_mutable (Some x) scope st (λ inner st.
-            bind (body k inner st) (after_body (of_loop k site name body o (i + 1) scope)))))
+    (λ x st. turn site st (λ st. open_cell name.site name.name name.is_mutable (Some x) scope st (λ inner st.
+    bind (body k inner st) (after_body (of_loop k site name body o (i + 1) scope)))))
 
 -- 14.7.5.5 and 7.4.3, GetIterator: an array, or a match result; a string leaves the profile, and nothing else is run over
 abbrev pub of_start : ℕ → (ℕ → Place → Outcome) → Value → Place → Outcome
-of_start site go (object o) st = if is_array (object_at st.objects o).class then go o st else throw_error site kind.TypeError st
+of_start site go (object o) st =
+    if is_array (object_at st.objects o).class then go o st else throw_error site kind.TypeError st
 of_start site go (text t) st = leaves site why.Iterate st
 of_start site go _ st = throw_error site kind.TypeError st
 

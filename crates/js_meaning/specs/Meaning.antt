@@ -1,9 +1,7 @@
 -- What a script does, big-step, by cases on its tree (ECMA-262, evaluation of strict mode code).
-use Rattle.std.specs.Prelude.{ℕ, zero, suc, ◌+◌, Bool, true, false, pos, min, nat_le, length, List, [], ◌∷◌, ◌++◌, map, Option, Some, None, option_map, if◌then◌else◌}
+use Rattle.std.specs.Prelude.{ℕ, zero, suc, ◌+◌, Bool, true, false, pos, min, nat_le, length, List, [], ◌∷◌, map, Option, Some, None, option_map, if◌then◌else◌}
 use Rattle.path_core.specs.declared.path.ErrorName.TheVariants as kind
 use Rattle.path_core.specs.declared.path.Why.TheVariants as why
-use Rattle.path_core.specs.declared.path.Budget.TheVariants as budget
-use Rattle.path_core.specs.declared.path.End.TheVariants.{Cut}
 use Rattle.js_ast.specs.declared.expression.Expr.{Expr, para-Expr}
 use Rattle.js_ast.specs.declared.expression.Expr.TheOpen.{Expr-F, Stmt-F, Arm-F}
 use Rattle.js_ast.specs.declared.statement.Stmt.{Stmt, para-Stmt}
@@ -12,15 +10,14 @@ use Rattle.js_ast.specs.declared.parts.Catch.{Catch}
 use Rattle.js_ast.specs.declared.parts.Identifier.{Identifier}
 use Rattle.js_ast.specs.declared.parts.LoopHead.{LoopHead}
 use Rattle.js_ast.specs.declared.parts.LoopHead.TheVariants as head
-use Rattle.js_ast.specs.declared.operators.DeclarationKind.{DeclarationKind}
-use Rattle.js_meaning.specs.Values.{Text, Value, undefined, null, truth, int, text, object, Scope, Body, statements, expression, Code, Place, plain, array}
-use Rattle.js_meaning.specs.Running.{Completion, given, refers, normal, breaks, continues, returns, throws, stops, callee, Outcome, done, bind, leaves, count, turn, new_object, throw, throw_error, play, on_value, on_reference, text_limit}
+use Rattle.js_meaning.specs.Values.{Text, Value, undefined, null, truth, int, text, Scope, Body, statements, expression, Code, Place, plain, array}
+use Rattle.js_meaning.specs.Running.{Completion, given, normal, breaks, continues, returns, throws, stops, Outcome, done, bind, leaves, count, new_object, throw, throw_error, play, on_value, its_value, on_reference, text_limit}
 use Rattle.js_meaning.specs.Builtins.{Calls, among, error_names, construct}
 use Rattle.js_meaning.specs.Objects.{code_of}
 use Rattle.js_meaning.specs.Operators.{unary_row}
-use Rattle.js_meaning.specs.Names.{Found, bound, supplied, listed, nowhere, find_name, read_name, read_found, open_cell}
+use Rattle.js_meaning.specs.Names.{Found, listed, find_name, read_name, read_found, open_cell}
 use Rattle.js_meaning.specs.Parts.{Meaning, branch, make_function, gather, elements, members, links, logical_links, chain, aim, assign, step}
-use Rattle.js_meaning.specs.Blocks.{Declaration, declaration, is_let, declared_of, open_names, plain_code, arrow_code, function_expression, block, declare, activate}
+use Rattle.js_meaning.specs.Blocks.{Declaration, declaration, is_let, declared_of, open_names, arrow_code, function_expression, block, declare, activate}
 use Rattle.js_meaning.specs.Loops.{Part, spent, while_loop, do_loop, next_scope, for_loop, of_loop, of_start, kept, open_catch}
 use Rattle.js_meaning.specs.Nodes.{expr_node, stmt_node, count_at}
 
@@ -44,16 +41,19 @@ abbrev pub text_literal : ℕ → Text → Place → Outcome
 text_literal site t st = if nat_le (length t) text_limit then done st (given (text t)) else leaves site why.Size st
 
 -- `new` of anything but the constructor of an error leaves the profile, before its arguments
-abbrev pub new_found : {E : Type 0} → (E → Meaning) → ℕ → Identifier → List E → Calls → ℕ → Scope → Found → Place → Outcome
+abbrev pub new_found : {E : Type 0} → (E → Meaning) → ℕ → Identifier → List E → Calls → ℕ → Scope → Found → Place →
+    Outcome
 new_found run site name arguments calls k scope listed st =
     if among name.name error_names
     then gather run arguments calls k scope [] (construct site name.name) st
     else leaves site why.New st
-new_found run site name arguments calls k scope f st = bind (read_found name.site name.name f st) (on_value (λ x st. leaves site why.New st))
+new_found run site name arguments calls k scope f st =
+    bind (read_found name.site name.name f st) (on_value (λ x st. leaves site why.New st))
 
 -- 13.3.5: the name is looked up first, as in any reading
 abbrev pub new_of : {E : Type 0} → (E → Meaning) → ℕ → Identifier → List E → Meaning
-new_of run site name arguments calls k scope st = new_found run site name arguments calls k scope (find_name scope name.name st) st
+new_of run site name arguments calls k scope st =
+    new_found run site name arguments calls k scope (find_name scope name.name st) st
 
 abbrev pub chosen : Bool → Meaning → Meaning → Meaning
 chosen true so other = so
@@ -68,22 +68,31 @@ in_expr (Expr-F.Null site) calls k scope st = done st (given null)
 in_expr (Expr-F.True site) calls k scope st = done st (given (truth true))
 in_expr (Expr-F.False site) calls k scope st = done st (given (truth false))
 in_expr (Expr-F.This site) calls k scope st = done st (given scope.this)
-in_expr (Expr-F.Array site items) calls k scope st = new_object site array st (elements meaning_of site items calls k scope)
+in_expr (Expr-F.Array site items) calls k scope st =
+    new_object site array st (elements meaning_of site items calls k scope)
 in_expr (Expr-F.Object site ms) calls k scope st = new_object site plain st (members meaning_of site ms calls k scope)
-in_expr (Expr-F.FunctionExpression site name parameters body) calls k scope st = function_expression site name parameters (trees_of body) scope st
+in_expr (Expr-F.FunctionExpression site name parameters body) calls k scope st =
+    function_expression site name parameters (trees_of body) scope st
 in_expr (Expr-F.Arrow site parameters value) calls k scope st =
     make_function site (arrow_code parameters (expression value.0) scope) st (λ f st. done st (given f))
 in_expr (Expr-F.ArrowBlock site parameters body) calls k scope st =
     make_function site (arrow_code parameters (statements (trees_of body)) scope) st (λ f st. done st (given f))
 in_expr (Expr-F.New site name arguments) calls k scope st = new_of meaning_of site name arguments calls k scope st
-in_expr (Expr-F.Call first suffixes) calls k scope st = bind (first.1 calls k scope st) (on_reference (chain meaning_of suffixes calls k scope))
-in_expr (Expr-F.Unary site op operand) calls k scope st = bind (operand.1 calls k scope st) (on_value (λ x st. play (unary_row op site x st.objects) st))
-in_expr (Expr-F.Step start site op is_prefix t) calls k scope st = aim meaning_of t calls k scope (step op site is_prefix scope) st
-in_expr (Expr-F.Binary first ls) calls k scope st = bind (first.1 calls k scope st) (on_value (links meaning_of ls calls k scope))
-in_expr (Expr-F.Logical first ls) calls k scope st = bind (first.1 calls k scope st) (on_value (logical_links meaning_of ls calls k scope))
+in_expr (Expr-F.Call first suffixes) calls k scope st =
+    bind (first.1 calls k scope st) (on_reference (chain meaning_of suffixes calls k scope))
+in_expr (Expr-F.Unary site op operand) calls k scope st =
+    bind (operand.1 calls k scope st) (on_value (λ x st. play (unary_row op site x st.objects) st))
+in_expr (Expr-F.Step start site op is_prefix t) calls k scope st =
+    aim meaning_of t calls k scope (step op site is_prefix scope) st
+in_expr (Expr-F.Binary first ls) calls k scope st =
+    bind (first.1 calls k scope st) (on_value (links meaning_of ls calls k scope))
+in_expr (Expr-F.Logical first ls) calls k scope st =
+    bind (first.1 calls k scope st) (on_value (logical_links meaning_of ls calls k scope))
 in_expr (Expr-F.Conditional start site test consequent alternate) calls k scope st =
-    bind (test.1 calls k scope st) (on_value (λ x st. branch site x st (λ holds. chosen holds consequent.1 alternate.1 calls k scope)))
-in_expr (Expr-F.Assign start site op t value) calls k scope st = aim meaning_of t calls k scope (assign op site value.1 calls k scope) st
+    bind (test.1 calls k scope st) (on_value (λ x st. branch site x st (λ holds st.
+    bind (chosen holds consequent.1 alternate.1 calls k scope st) its_value)))
+in_expr (Expr-F.Assign start site op t value) calls k scope st =
+    aim meaning_of t calls k scope (assign op site value.1 calls k scope) st
 
 abbrev pub of_expr : Expr-F (Expr × Meaning) (Stmt × Meaning) (Arm × Arms) → Meaning
 of_expr f calls k scope st = count_at (expr_node f) st (in_expr f calls k scope)
@@ -101,7 +110,7 @@ optional (Some s) calls k scope st = s.1 calls k scope st
 abbrev pub of_arm : Arm-F (Expr × Meaning) (Stmt × Meaning) (Arm × Arms) → Arms
 of_arm arm rest calls k scope st =
     count arm.site st (λ st. bind (arm.test.1 calls k scope st) (on_value (λ x st.
-        branch arm.site x st (λ holds. chosen holds arm.consequent.1 rest calls k scope))))
+    branch arm.site x st (λ holds. chosen holds arm.consequent.1 rest calls k scope))))
 
 abbrev pub all_arms : List (Arm × Arms) → Meaning → Meaning
 all_arms [] rest = rest
@@ -111,24 +120,26 @@ abbrev pub part_of : Calls → Expr × Meaning → Part
 part_of calls e k scope st = e.1 calls k scope st
 
 -- behind the declarations of the head: first fresh bindings of `let`, and none of `const`
-abbrev pub for_declared : Bool → List Declaration → Scope → Scope → (List Declaration → Scope → Place → Outcome) → Place → Completion → Outcome
+abbrev pub for_declared : Bool → List Declaration → Scope → Scope → (List Declaration → Scope → Place → Outcome) →
+    Place → Completion → Outcome
 for_declared true names outer scope go st normal = next_scope names scope outer st (go names)
 for_declared false names outer scope go st normal = go [] scope st
 for_declared is_let names outer scope go st c = done st c
 
 -- 14.7.4.2: what stands first in the head, and then the loop, with the names that get fresh bindings in each round
-abbrev pub for_head : LoopHead (Expr × Meaning) → Calls → ℕ → Scope → (List Declaration → Scope → Place → Outcome) → Place → Outcome
+abbrev pub for_head : LoopHead (Expr × Meaning) → Calls → ℕ → Scope → (List Declaration → Scope → Place → Outcome) →
+    Place → Outcome
 for_head head.Nothing calls k scope go st = go [] scope st
 for_head (head.Value e) calls k scope go st = bind (e.1 calls k scope st) (on_value (λ x st. go [] scope st))
 for_head (head.Declare kind ds) calls k outer go st =
     open_names (declared_of kind ds) outer st (λ scope st.
-        bind (declare meaning_of ds calls k scope st) (for_declared (is_let kind) (declared_of kind ds) outer scope go))
+    bind (declare meaning_of ds calls k scope st) (for_declared (is_let kind) (declared_of kind ds) outer scope go))
 
 -- 14.7.5.5: the iterated expression stands where the name isn't initialised
 abbrev pub for_of : ℕ → Declaration → Meaning → Part → Calls → ℕ → Scope → Place → Outcome
 for_of site name items body calls k scope st =
     open_cell name.site name.name name.is_mutable None scope st (λ inner st.
-        bind (items calls k inner st) (on_value (of_start site (λ o. of_loop (suc k) site name body o 0 scope))))
+    bind (items calls k inner st) (on_value (of_start site (λ o. of_loop (suc k) site name body o 0 scope))))
 
 -- CatchClauseEvaluation (14.15.2)
 abbrev pub caught : Option (Catch (List (Stmt × Meaning))) → Calls → ℕ → Scope → Place → Completion → Outcome
@@ -153,8 +164,10 @@ in_stmt (Stmt-F.Declare site kind ds) calls k scope st = declare meaning_of ds c
 in_stmt (Stmt-F.Function site name parameters body) calls k scope st = done st normal
 in_stmt (Stmt-F.Express site value) calls k scope st = bind (value.1 calls k scope st) (on_value gives_nothing)
 in_stmt (Stmt-F.If arms alternate) calls k scope st = all_arms arms (optional alternate) calls k scope st
-in_stmt (Stmt-F.While site test body) calls k scope st = while_loop (suc k) site (part_of calls test) (body.1 calls) scope st
-in_stmt (Stmt-F.Do site body test_site test) calls k scope st = do_loop (suc k) site test_site (part_of calls test) (body.1 calls) scope st
+in_stmt (Stmt-F.While site test body) calls k scope st =
+    while_loop (suc k) site (part_of calls test) (body.1 calls) scope st
+in_stmt (Stmt-F.Do site body test_site test) calls k scope st =
+    do_loop (suc k) site test_site (part_of calls test) (body.1 calls) scope st
 in_stmt (Stmt-F.For site h test update body) calls k outer st =
     for_head h calls k outer (λ names. for_loop (suc k) site names (option_map (part_of calls) test) (option_map (part_of calls) update) (body.1 calls) outer) st
 in_stmt (Stmt-F.ForOf site kind name items body) calls k scope st =
@@ -206,7 +219,8 @@ body_of (expression e) calls k scope st = bind (expr e calls k scope st) (on_val
 
 abbrev pub call : Option Code → Calls → ℕ → ℕ → Value → List Value → Place → Outcome
 call None calls k site this xs st = throw_error site kind.TypeError st
-call (Some code) calls k site this xs st = activate site code this xs st (λ scope st. bind (body_of code.body calls k scope st) returned)
+call (Some code) calls k site this xs st =
+    activate site code this xs st (λ scope st. bind (body_of code.body calls k scope st) returned)
 
 -- calls that nest less than so many times deep; the turns run out before
 abbrev pub calls_in : ℕ → Calls

@@ -19,7 +19,8 @@ with_binding b st = record st { cells = st.cells ++ b ∷ [] }
 unfoldable pub open_cell : ℕ → Text → Bool → Option Value → Scope → Place → (Scope → Place → Outcome) → Outcome
 open_cell site name is_mutable value scope st go =
     if nat_lt (length st.cells) binding_limit
-    then go (inside scope (length st.cells)) (with_binding (record { name = name; is_mutable = is_mutable; outer = scope.cell; value = value }) st)
+    then go (inside scope (length st.cells))
+    (with_binding (record { name = name; is_mutable = is_mutable; outer = scope.cell; value = value }) st)
     else leaves site why.Size st
 
 abbrev pub resolve_in : Option Binding → ℕ → Text → (Option ℕ → Option ℕ) → Option ℕ

@@ -1,6 +1,6 @@
 -- Numbers (ECMA-262, section 6.1.6.1): safe integers and NaN. That there are no others, and that -0 is 0, is this
 -- project's own rule; where the standard's result is another one, the run leaves the profile.
-use Rattle.std.specs.Prelude.{ℕ, ◌+◌, ◌-◌, ◌*◌, ◌/◌, ◌%◌, ◌^◌, ℤ, pos, negsuc, ◌+ℤ◌, ◌-ℤ◌, ◌*ℤ◌, neg_ℤ, Bool, true, false, not, ◌&&◌, nat_lt, int_lt, int_le, int_div, int_rem, bit_and, bit_or, bit_xor, Option, Some, None, option_map, if◌then◌else◌}
+use Rattle.std.specs.Prelude.{ℕ, ◌-◌, ◌*◌, ◌/◌, ◌%◌, ◌^◌, ℤ, pos, negsuc, ◌+ℤ◌, ◌-ℤ◌, ◌*ℤ◌, neg_ℤ, Bool, true, false, not, ◌&&◌, nat_lt, int_lt, int_le, int_div, int_rem, Option, Some, None, option_map, if◌then◌else◌}
 
 -- a safe integer; NaN where there is none
 abbrev pub Number : Type 0

@@ -5,7 +5,7 @@ use Rattle.path_core.specs.declared.path.ErrorName.{ErrorName}
 use Rattle.path_core.specs.declared.path.ErrorName.TheVariants as kind
 use Rattle.path_core.specs.declared.path.Why.TheVariants as why
 use Rattle.js_meaning.specs.Values.{Text, Value, undefined, null, truth, int, nan, text, object, Code, Class, plain, array, matched, function, regexp, error, Object, Place}
-use Rattle.js_meaning.specs.Running.{Reference, callee, intrinsic, static, method, Answer, comes_to, raises, ends, Row, Outcome, done, given, leaves, leaving, giving, ending, entry_limit, answer, play}
+use Rattle.js_meaning.specs.Running.{Reference, callee, intrinsic, static, method, Answer, comes_to, raises, ends, Row, Outcome, leaves, leaving, ending, entry_limit, answer, play}
 use Rattle.js_meaning.specs.Builtins.{among, is_static, is_method, array_methods, pattern_methods}
 
 -- ---- keys
@@ -48,7 +48,8 @@ ascending (n ∷ ns) = placed n (ascending ns)
 
 -- OrdinaryOwnPropertyKeys (10.1.11.1), of keys in the order of their creation: array indexes ascending, then the others
 abbrev pub own_keys : List Text → List Text
-own_keys created = map decimal (ascending (filter_map array_index created)) ++ filter (λ key. not (is_some (array_index key))) created
+own_keys created =
+    map decimal (ascending (filter_map array_index created)) ++ filter (λ key. not (is_some (array_index key))) created
 
 -- ---- objects
 
@@ -101,7 +102,8 @@ own_or_other site base key (Some x) = holds base x
 -- an own key of a plain object, else undefined
 abbrev pub own_or_undefined : ℕ → Value → Text → Option Value → Row
 own_or_undefined site base key (Some x) = holds base x
-own_or_undefined site base key None = if among key inherited_names then ending site why.Inherited else holds base undefined
+own_or_undefined site base key None =
+    if among key inherited_names then ending site why.Inherited else holds base undefined
 
 -- the name of an error (20.5.3.3)
 abbrev pub error_text : ErrorName → Text
@@ -143,14 +145,16 @@ get_row site null key objects = ([], raises site kind.TypeError)
 get_row site (truth b) key objects = other site (truth b) key
 get_row site (int n) key objects = other site (int n) key
 get_row site nan key objects = other site nan key
-get_row site (text t) key objects = if bytes_eq key (codes "length") then holds (text t) (int (pos (length t))) else other site (text t) key
+get_row site (text t) key objects =
+    if bytes_eq key (codes "length") then holds (text t) (int (pos (length t))) else other site (text t) key
 get_row site (object o) key objects = get_own site o key (object_at objects o)
 
 -- behind `.`, of what stands before it; of a built-in name only a listed property. A method that isn't called has left the
 -- profile before
 abbrev pub property_row : ℕ → Reference → Text → List Object → Row
 property_row site (callee x this) key objects = get_row site x key objects
-property_row site (intrinsic at name) key objects = if is_static name key then ([], comes_to (static site name key)) else ending site why.Builtin
+property_row site (intrinsic at name) key objects =
+    if is_static name key then ([], comes_to (static site name key)) else ending site why.Builtin
 property_row site _ key objects = ending site why.Builtin
 
 -- ---- properties in brackets: they leave the profile so far, but for the methods and listed properties of the table
@@ -178,7 +182,8 @@ bracket_method site x (Some key) objects =
 
 abbrev pub bracket_static : ℕ → Text → Option Text → Row
 bracket_static site name None = ending site why.Builtin
-bracket_static site name (Some key) = if is_static name key then ([], comes_to (static site name key)) else ending site why.Builtin
+bracket_static site name (Some key) =
+    if is_static name key then ([], comes_to (static site name key)) else ending site why.Builtin
 
 -- behind `[`, of what stands before it, and of the key's value; the flag tells a literal alone
 unfoldable pub bracket_row : ℕ → Bool → Reference → Value → List Object → Row
@@ -210,28 +215,33 @@ no_room site = Err (ends (leaving site why.Size))
 
 -- a property of the object with this number gets the value
 abbrev pub with_property : List Object → ℕ → Text → Value → List Object
-with_property objects o key x = slice_set objects o (record (object_at objects o) { properties = put (object_at objects o).properties key x })
+with_property objects o key x =
+    slice_set objects o (record (object_at objects o) { properties = put (object_at objects o).properties key x })
 
 -- CreateDataProperty (7.3.5): a key that is there, or a new one where there is room
 abbrev pub add_property : ℕ → List Object → ℕ → Text → Value → Written
 add_property site objects o key x =
-    if is_some (look_up key (object_at objects o).properties) || nat_lt (length (object_at objects o).properties) entry_limit
+    if is_some (look_up key (object_at objects o).properties)
+    || nat_lt (length (object_at objects o).properties) entry_limit
     then Ok (with_property objects o key x)
     else no_room site
 
 abbrev pub set_plain : ℕ → List Object → ℕ → Text → Value → Written
-set_plain site objects o key x = if bytes_eq key (codes "__proto__") then inherits site else add_property site objects o key x
+set_plain site objects o key x =
+    if bytes_eq key (codes "__proto__") then inherits site else add_property site objects o key x
 
 abbrev pub set_named : ℕ → Text → List Text → Written
 set_named site key names = if among key names then set_leaves site else inherits site
 
 abbrev pub set_pattern : ℕ → List Object → ℕ → Text → Value → Written
-set_pattern site objects o key x = if bytes_eq key (codes "lastIndex") then Ok (with_property objects o key x) else set_named site key pattern_methods
+set_pattern site objects o key x =
+    if bytes_eq key (codes "lastIndex") then Ok (with_property objects o key x) else set_named site key pattern_methods
 
 abbrev pub set_in : ℕ → List Object → ℕ → Text → Value → Class → Written
 set_in site objects o key x plain = set_plain site objects o key x
 set_in site objects o key x array = set_named site key (codes "length" ∷ array_methods)
-set_in site objects o key x matched = set_named site key (codes "length" ∷ codes "index" ∷ codes "input" ∷ codes "groups" ∷ array_methods)
+set_in site objects o key x matched =
+    set_named site key (codes "length" ∷ codes "index" ∷ codes "input" ∷ codes "groups" ∷ array_methods)
 set_in site objects o key x (function code) = set_leaves site
 set_in site objects o key x (regexp at p) = set_pattern site objects o key x
 set_in site objects o key x (error name engine) = set_leaves site
@@ -249,7 +259,9 @@ written (Err a) st go = answer a st
 
 -- an item behind the last one of an array that is being made
 abbrev pub with_item : List Object → ℕ → Value → List Object
-with_item objects o x = slice_set objects o (record (object_at objects o) { items = (object_at objects o).items ++ x ∷ [] })
+with_item objects o x =
+    slice_set objects o (record (object_at objects o) { items = (object_at objects o).items ++ x ∷ [] })
 
 abbrev pub add_item : ℕ → List Object → ℕ → Value → Written
-add_item site objects o x = if nat_lt (length (object_at objects o).items) entry_limit then Ok (with_item objects o x) else no_room site
+add_item site objects o x =
+    if nat_lt (length (object_at objects o).items) entry_limit then Ok (with_item objects o x) else no_room site

@@ -1,6 +1,6 @@
 -- Operators, one row each: the items that it shows, and then a value or an end. A guard stands where an operand's value,
 -- and not its kind, could make the run leave the profile.
-use Rattle.std.specs.Prelude.{ℕ, ◌+ℤ◌, ◌-ℤ◌, pos, nat_lt, nat_le, ◌==◌, Bool, true, false, not, ◌&&◌, ◌||◌, bytes_eq, length, List, [], ◌∷◌, ◌++◌, Option, Some, None, codes, bit_and, bit_or, bit_xor, if◌then◌else◌}
+use Rattle.std.specs.Prelude.{ℕ, pos, nat_lt, nat_le, ◌==◌, Bool, true, false, not, ◌&&◌, ◌||◌, bytes_eq, length, List, [], ◌∷◌, ◌++◌, Option, Some, None, codes, bit_and, bit_or, bit_xor, if◌then◌else◌}
 use Rattle.path_core.specs.declared.path.Event.{Event}
 use Rattle.path_core.specs.declared.path.Event.TheVariants.{Pick}
 use Rattle.path_core.specs.declared.path.PickKind.TheVariants.{Branch}
@@ -13,8 +13,8 @@ use Rattle.js_ast.specs.declared.operators.StepOp.{StepOp}
 use Rattle.js_ast.specs.declared.operators.StepOp.TheVariants.{Increment, Decrement}
 use Rattle.js_ast.specs.declared.operators.LogicalOp.{LogicalOp}
 use Rattle.js_ast.specs.declared.operators.LogicalOp.TheVariants as logic
-use Rattle.js_meaning.specs.Numbers.{Number, fits, add, subtract, multiply, divides, divide, remainder, negate, to_int32, bitwise, complement, shift_left, shift_right, shift_right_zero, less, at_most, equal, on_both}
-use Rattle.js_meaning.specs.Values.{Text, Value, undefined, null, truth, int, nan, text, object, Class, plain, array, matched, function, regexp, error, Object}
+use Rattle.js_meaning.specs.Numbers.{Number, fits, add, subtract, multiply, divides, divide, remainder, negate, to_int32, bitwise, complement, shift_left, shift_right, shift_right_zero, less, at_most, equal}
+use Rattle.js_meaning.specs.Values.{Text, Value, undefined, null, truth, int, nan, text, object, Object}
 use Rattle.js_meaning.specs.Running.{Row, made, gives, guarded, giving, ending, text_limit}
 use Rattle.js_meaning.specs.Conversions.{to_boolean, number_value, bit, to_number, to_string, is_nullish, is_text}
 use Rattle.js_meaning.specs.Objects.{is_callable}

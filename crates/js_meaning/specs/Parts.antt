@@ -1,5 +1,5 @@
 -- Parts of expressions: arguments, literals, chains of operators and of suffixes, and targets. `run` is what a part below does.
-use Rattle.std.specs.Prelude.{ℕ, ◌+◌, Bool, true, false, List, [], ◌∷◌, ◌++◌, Option, Some, None, decimal, if◌then◌else◌}
+use Rattle.std.specs.Prelude.{ℕ, ◌+◌, Bool, true, false, List, [], ◌∷◌, ◌++◌, Option, Some, None, decimal}
 use Rattle.path_core.specs.declared.path.Why.TheVariants as why
 use Rattle.js_ast.specs.declared.operators.BinaryOp.{BinaryOp}
 use Rattle.js_ast.specs.declared.operators.LogicalOp.{LogicalOp}
@@ -38,15 +38,18 @@ make_function site code st go = new_object site (function code) st (λ f. go (ob
 -- ---- arguments and literals
 
 -- ArgumentListEvaluation (13.3.8.1): from left to right
-abbrev pub gather : {E : Type 0} → (E → Meaning) → List E → Calls → ℕ → Scope → List Value → (List Value → Place → Outcome) → Place → Outcome
+abbrev pub gather : {E : Type 0} → (E → Meaning) → List E → Calls → ℕ → Scope → List Value →
+    (List Value → Place → Outcome) → Place → Outcome
 gather run [] calls k scope xs go st = go xs st
-gather run (e ∷ es) calls k scope xs go st = bind (run e calls k scope st) (on_value (λ x st. gather run es calls k scope (xs ++ x ∷ []) go st))
+gather run (e ∷ es) calls k scope xs go st =
+    bind (run e calls k scope st) (on_value (λ x st. gather run es calls k scope (xs ++ x ∷ []) go st))
 
 -- the elements of an array literal, which is there before them (13.2.4.1)
 abbrev pub elements : {E : Type 0} → (E → Meaning) → ℕ → List E → Calls → ℕ → Scope → ℕ → Place → Outcome
 elements run site [] calls k scope o st = done st (given (object o))
 elements run site (e ∷ es) calls k scope o st =
-    bind (run e calls k scope st) (on_value (λ x st. written (add_item site st.objects o x) st (elements run site es calls k scope o)))
+    bind (run e calls k scope st) (on_value
+    (λ x st. written (add_item site st.objects o x) st (elements run site es calls k scope o)))
 
 -- the key of a number is its decimal text
 abbrev pub key_text : Key → Text
@@ -66,7 +69,8 @@ member_value run (member.Shorthand name) calls j scope st = count name.site st (
 abbrev pub members : {E : Type 0} → (E → Meaning) → ℕ → List (Member E) → Calls → ℕ → Scope → ℕ → Place → Outcome
 members run site [] calls k scope o st = done st (given (object o))
 members run site (m ∷ ms) calls k scope o st =
-    bind (member_value run m calls k scope st) (on_value (λ x st. written (add_property site st.objects o (member_key m) x) st (members run site ms calls k scope o)))
+    bind (member_value run m calls k scope st) (on_value
+    (λ x st. written (add_property site st.objects o (member_key m) x) st (members run site ms calls k scope o)))
 
 -- ---- chains of operators; each operator counts when it is reached, before its right side
 
@@ -82,7 +86,8 @@ apply op site x y st = play (binary_row op site x y) (noted (is_join op x y) st)
 abbrev pub links : {E : Type 0} → (E → Meaning) → List (Link BinaryOp E) → Calls → ℕ → Scope → Value → Place → Outcome
 links run [] calls k scope x st = done st (given x)
 links run (l ∷ ls) calls k scope x st =
-    count l.site st (λ st. bind (run l.right calls k scope st) (on_value (λ y st. bind (apply l.op l.site x y st) (on_value (links run ls calls k scope)))))
+    count l.site st (λ st. bind (run l.right calls k scope st)
+    (on_value (λ y st. bind (apply l.op l.site x y st) (on_value (links run ls calls k scope)))))
 
 -- the right side, or the left one that has decided
 abbrev pub decided : Bool → Meaning → Value → Meaning
@@ -90,11 +95,13 @@ decided true right x calls k scope st = right calls k scope st
 decided false right x calls k scope st = done st (given x)
 
 -- `&&`, `||` and `??` (13.13.1): each mark makes its event, also behind one that has decided
-abbrev pub logical_links : {E : Type 0} → (E → Meaning) → List (Link LogicalOp E) → Calls → ℕ → Scope → Value → Place → Outcome
+abbrev pub logical_links : {E : Type 0} → (E → Meaning) → List (Link LogicalOp E) → Calls → ℕ → Scope → Value →
+    Place → Outcome
 logical_links run [] calls k scope x st = done st (given x)
 logical_links run (l ∷ ls) calls k scope x st =
     count l.site st (λ st. bind (play (logical_row l.op l.site x) st) (on_value (λ b st.
-        bind (decided (goes_on l.op (to_boolean b)) (run l.right) x calls k scope st) (on_value (logical_links run ls calls k scope)))))
+    bind (decided (goes_on l.op (to_boolean b)) (run l.right) x calls k scope st)
+    (on_value (logical_links run ls calls k scope)))))
 
 -- ---- chains of suffixes (13.3); each counts before its key or its arguments
 
@@ -114,13 +121,13 @@ abbrev pub chain : {E : Type 0} → (E → Meaning) → List (Suffix E) → Call
 chain run [] calls k scope r st = done st (refers r)
 chain run (suffix.Access (access.Property site name) ∷ ss) calls k scope r st =
     settled r st (λ st. count site st (λ st.
-        bind (play (property_row site r name st.objects) st) (on_reference (chain run ss calls k scope))))
+    bind (play (property_row site r name st.objects) st) (on_reference (chain run ss calls k scope))))
 chain run (suffix.Access (access.Index site is_static e) ∷ ss) calls k scope r st =
     settled r st (λ st. count site st (λ st. bind (run e calls k scope st) (on_value (λ y st.
-        bind (get_bracket site is_static r y st) (on_reference (chain run ss calls k scope))))))
+    bind (get_bracket site is_static r y st) (on_reference (chain run ss calls k scope))))))
 chain run (suffix.Call site arguments ∷ ss) calls k scope r st =
     count site st (gather run arguments calls k scope [] (λ xs st.
-        bind (invoke calls site r xs st) (on_reference (chain run ss calls k scope))))
+    bind (invoke calls site r xs st) (on_reference (chain run ss calls k scope))))
 
 -- ---- targets (13.15.1, simple assignment targets)
 
@@ -141,15 +148,19 @@ abbrev pub aim_bracket : ℕ → Bool → Reference → Value → Place → (Aim
 aim_bracket site is_static (callee x this) y st go = leaves site why.Key st
 aim_bracket site is_static r y st go = leaves site why.Builtin st
 
-abbrev pub aim_access : {E : Type 0} → (E → Meaning) → Access E → Calls → ℕ → Scope → (Aim → Place → Outcome) → Reference → Place → Outcome
-aim_access run (access.Property site name) calls k scope go r st = settled r st (λ st. count site st (λ st. aim_property site name r st go))
+abbrev pub aim_access : {E : Type 0} → (E → Meaning) → Access E → Calls → ℕ → Scope → (Aim → Place → Outcome) →
+    Reference → Place → Outcome
+aim_access run (access.Property site name) calls k scope go r st =
+    settled r st (λ st. count site st (λ st. aim_property site name r st go))
 aim_access run (access.Index site is_static e) calls k scope go r st =
-    settled r st (λ st. count site st (λ st. bind (run e calls k scope st) (on_value (λ y st. aim_bracket site is_static r y st go))))
+    settled r st (λ st. count site st (λ st. bind (run e calls k scope st)
+    (on_value (λ y st. aim_bracket site is_static r y st go))))
 
 -- a target counts: a name once, a property as a suffix behind its base
 abbrev pub aim : {E : Type 0} → (E → Meaning) → Target E → Calls → ℕ → Scope → (Aim → Place → Outcome) → Place → Outcome
 aim run (target.Name name) calls k scope go st = count name.site st (go (name_aim name.site name.name))
-aim run (target.Access base a) calls k scope go st = bind (run base calls k scope st) (on_reference (aim_access run a calls k scope go))
+aim run (target.Access base a) calls k scope go st =
+    bind (run base calls k scope st) (on_reference (aim_access run a calls k scope go))
 
 -- GetValue (6.2.5.5)
 abbrev pub get_aim : Scope → Aim → Place → Outcome
@@ -160,7 +171,8 @@ get_aim scope (bracket_aim site is_static base y) st = get_bracket site is_stati
 -- PutValue (6.2.5.6); the value is that of the whole
 abbrev pub put_aim : Scope → Aim → Value → Place → Outcome
 put_aim scope (name_aim site name) x st = put_name site name scope x st
-put_aim scope (property_aim site base name) x st = written (set_row site base name x st.objects) st (λ st. done st (given x))
+put_aim scope (property_aim site base name) x st =
+    written (set_row site base name x st.objects) st (λ st. done st (given x))
 put_aim scope (bracket_aim site is_static base y) x st = set_bracket site is_static base y x st
 
 -- ---- assignment (13.15.2)
@@ -173,7 +185,7 @@ plain_assign value calls k scope a st = bind (value calls k scope st) (on_value 
 abbrev pub compound_assign : BinaryOp → ℕ → Meaning → Calls → ℕ → Scope → Aim → Place → Outcome
 compound_assign op site value calls k scope a st =
     bind (get_aim scope a st) (on_value (λ x st. bind (value calls k scope st) (on_value (λ y st.
-        bind (apply op site x y st) (on_value (put_aim scope a))))))
+    bind (apply op site x y st) (on_value (put_aim scope a))))))
 
 abbrev pub assign : Option BinaryOp → ℕ → Meaning → Calls → ℕ → Scope → Aim → Place → Outcome
 assign None site = plain_assign
@@ -189,4 +201,4 @@ step_value false x y = old_number x
 abbrev pub step : StepOp → ℕ → Bool → Scope → Aim → Place → Outcome
 step s site is_prefix scope a st =
     bind (get_aim scope a st) (on_value (λ x st. bind (play (step_row s site x) st) (on_value (λ y st.
-        bind (put_aim scope a y st) (on_value (λ z st. done st (given (step_value is_prefix x z))))))))
+    bind (put_aim scope a y st) (on_value (λ z st. done st (given (step_value is_prefix x z))))))))

@@ -1,5 +1,5 @@
 -- The path of an input: the events on the way of its run, and the end.
-use Rattle.std.specs.Prelude.{ℕ, List, [], ◌∷◌, Option, Some, None, slice_get}
+use Rattle.std.specs.Prelude.{ℕ, List, [], ◌∷◌}
 use Rattle.path_core.specs.declared.bounds.Bounds.{Bounds}
 use Rattle.path_core.specs.declared.bounds.Declared.{Declared}
 use Rattle.path_core.specs.declared.path.InputValue.{InputValue}
@@ -10,10 +10,8 @@ use Rattle.path_core.specs.declared.path.Thrown.TheVariants as thrown
 use Rattle.path_core.specs.declared.path.End.{End}
 use Rattle.path_core.specs.declared.path.End.TheVariants.{Done, Threw}
 use Rattle.path_core.specs.declared.path.Path.{Path}
-use Rattle.re_ast.specs.declared.patterns.Pattern.{Pattern}
-use Rattle.re_ast.specs.Execution.{Match, exec}
 use Rattle.js_ast.specs.declared.statement.Script.{Script}
-use Rattle.js_meaning.specs.Values.{Text, Value, int, text, object, Class, error, Object, Answers, Given, Place}
+use Rattle.js_meaning.specs.Values.{Text, Value, int, text, object, Class, error, Object, Answers, Place}
 use Rattle.js_meaning.specs.Running.{Item, passed, made, Completion, throws, stops, Outcome}
 use Rattle.js_meaning.specs.Objects.{object_at}
 use Rattle.js_meaning.specs.Meaning.{whole_of}
@@ -33,8 +31,16 @@ inputs_of (d ∷ ds) (v ∷ vs) = (d.name, input_value v) ∷ inputs_of ds vs
 -- nothing done yet
 abbrev pub start : Bounds → List InputValue → Answers → Place
 start bounds values answers = record {
-    run = record { inputs = inputs_of bounds.inputs values; turns = bounds.turns; answers = answers };
-    cells = []; objects = []; events = 0; turns = bounds.turns; ended = 0; nodes = 0; joins = 0; execs = 0 }
+  run = record { inputs = inputs_of bounds.inputs values; turns = bounds.turns; answers = answers };
+  cells = [];
+  objects = [];
+  events = 0;
+  turns = bounds.turns;
+  ended = 0;
+  nodes = 0;
+  joins = 0;
+  execs = 0;
+}
 
 -- ---- the end
 

@@ -115,7 +115,9 @@ leaves site why st = done st (stops (stamped st (leaving site why)))
 
 -- one node, at a site
 unfoldable pub count : ℕ → Place → (Place → Outcome) → Outcome
-count site st go = if nat_lt st.nodes node_limit then go (record st { nodes = st.nodes + 1 }) else done st (stops (Cut site budget.Nodes))
+count site st go =
+    if nat_lt st.nodes node_limit then go (record st { nodes = st.nodes + 1 })
+    else done st (stops (Cut site budget.Nodes))
 
 abbrev pub turn_of : ℕ → ℕ → Place → (Place → Outcome) → Outcome
 turn_of zero site st go = done st (stops (Cut site budget.Turns))
@@ -195,6 +197,10 @@ abbrev pub on_value : (Value → Place → Outcome) → Place → Completion →
 on_value go st (given value) = go value st
 on_value go st (refers r) = get_value go r st
 on_value go st c = done st c
+
+-- the value itself, which has no `this` any more
+abbrev pub its_value : Place → Completion → Outcome
+its_value = on_value (λ value st. done st (given value))
 
 -- with what an expression refers to; a value has no `this`
 abbrev pub on_reference : (Reference → Place → Outcome) → Place → Completion → Outcome

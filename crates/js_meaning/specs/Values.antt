@@ -1,5 +1,5 @@
 -- Values and the store: objects, bindings, scopes, and what a run counts.
-use Rattle.std.specs.Prelude.{ℕ, ℤ, Bool, List, [], ◌∷◌, Option}
+use Rattle.std.specs.Prelude.{ℕ, ℤ, Bool, List, Option}
 use Rattle.path_core.specs.declared.path.ErrorName.{ErrorName}
 use Rattle.re_ast.specs.declared.patterns.Pattern.{Pattern}
 use Rattle.re_ast.specs.Execution.{Match}

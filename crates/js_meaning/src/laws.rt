@@ -1,7 +1,8 @@
-//! Laws of the rows in `specs/`: between two of its events a row passes no exit twice, and it ends at none that it has
-//! passed. Each is the contract of a function that does nothing; crates above cite them.
+//! Laws of the definitions in `specs/`. Each is the contract of a function that does nothing; crates above cite them.
+//! Of rows: between two of its events a row passes no exit twice, and it ends at none that it has passed.
 
-ghost use Rattle.std.specs.Prelude.{ℕ, Bool, List};
+ghost use Rattle.std.specs.Prelude.{ℕ, Bool, List, Decides};
+ghost use Rattle.js_units.specs.Order.{IsLess};
 ghost use Rattle.js_ast.specs.declared.operators.BinaryOp.{BinaryOp as SpecBinaryOp};
 ghost use Rattle.js_ast.specs.declared.operators.LogicalOp.{LogicalOp as SpecLogicalOp};
 ghost use Rattle.js_ast.specs.declared.operators.StepOp.{StepOp as SpecStepOp};
@@ -9,7 +10,7 @@ ghost use Rattle.js_ast.specs.declared.operators.UnaryOp.{UnaryOp as SpecUnaryOp
 ghost use Rattle.js_meaning.specs.Values.{Text, Value, Object};
 ghost use Rattle.js_meaning.specs.Running.{Reference};
 ghost use Rattle.js_meaning.specs.Objects.{get_row, property_row, bracket_row, set_row, add_property, add_item};
-ghost use Rattle.js_meaning.specs.Operators.{test_row, logical_row, binary_row, unary_row, step_row};
+ghost use Rattle.js_meaning.specs.Operators.{test_row, logical_row, binary_row, unary_row, step_row, text_less};
 ghost use Rattle.js_meaning.specs.Apart.{RowApart, WrittenIn, nowhere, only};
 
 /// A test and the left side of `&&`, `||` and `??` pass no exit.
@@ -37,4 +38,9 @@ pub fn writes_apart()
     ensures set { (site : ℕ) (base : Value) (key : Text) (x : Value) (objects : List Object) → WrittenIn (only site) (set_row site base key x objects) }
     ensures property { (site : ℕ) (objects : List Object) (o : ℕ) (key : Text) (x : Value) → WrittenIn (only site) (add_property site objects o key x) }
     ensures item { (site : ℕ) (objects : List Object) (o : ℕ) (x : Value) → WrittenIn (only site) (add_item site objects o x) }
+{}
+
+/// `<` on two strings is the standard's order of their units (ECMA-262, section 7.2.12).
+pub fn strings_ordered()
+    ensures less { (a : Text) (b : Text) → Decides (text_less a b) (IsLess a b) }
 {}

@@ -4,4 +4,4 @@
 
 mod laws;
 
-pub use laws::{operators_apart, properties_apart, tests_apart, writes_apart};
+pub use laws::{operators_apart, properties_apart, strings_ordered, tests_apart, writes_apart};
