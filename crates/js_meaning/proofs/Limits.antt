@@ -9,7 +9,8 @@ use Rattle.re_ast.specs.Execution.{Match, exec}
 use Rattle.js_meaning.specs.Values.{Text, Value, truth, text, Scope, Class, Object, Answers, Place}
 use Rattle.js_meaning.specs.Running.{passed, made, given, stops, gives, ends, Outcome, done, count, turn, new_object, play, leaving, stamped, next_exec}
 use Rattle.js_meaning.specs.Names.{open_cell}
-use Rattle.js_meaning.specs.Objects.{own_keys, object_at, add_item, with_item, no_room}
+use Rattle.js_values.specs.OwnKeys.{own_keys}
+use Rattle.js_meaning.specs.Objects.{object_at, add_item, with_item, no_room}
 use Rattle.js_meaning.specs.Operators.{branch_event, branch_row, joined}
 use Rattle.js_meaning.specs.Meaning.{text_literal}
 

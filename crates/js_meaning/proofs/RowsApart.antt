@@ -10,7 +10,7 @@ use Rattle.js_ast.specs.declared.operators.UnaryOp.TheVariants as un
 use Rattle.js_ast.specs.declared.operators.StepOp.{StepOp}
 use Rattle.js_ast.specs.declared.operators.LogicalOp.{LogicalOp}
 use Rattle.js_ast.specs.declared.operators.LogicalOp.TheVariants as logic
-use Rattle.js_meaning.specs.Numbers.{Number, fits, divides, divide, add, subtract, multiply, remainder, negate, less, at_most, to_int32, complement}
+use Rattle.js_values.specs.Numbers.{Number, fits, divides, divide, add, subtract, multiply, remainder, negate, less, at_most, to_int32, complement}
 use Rattle.js_meaning.specs.Values.{Text, Value, undefined, null, truth, int, nan, text, object, Object, Class, plain, array, matched, function, regexp, error}
 use Rattle.js_meaning.specs.Running.{Answer, gives, comes_to, raises, ends, Row, Reference, callee, intrinsic, static, method, guarded, giving, ending, leaving, text_limit, entry_limit}
 use Rattle.js_meaning.specs.Conversions.{number_value, to_number, to_string}

@@ -1,7 +1,7 @@
 -- Conversions of values. Where there is none, the run leaves the profile (`convert`): this project's own rule.
 use Rattle.std.specs.Prelude.{ℕ, nat_lt, length, pos, Bool, true, false, not, Option, Some, None, codes}
 use Rattle.std.specs.Fmt.{signed_decimal}
-use Rattle.js_meaning.specs.Numbers.{Number, is_zero}
+use Rattle.js_values.specs.Numbers.{Number, is_zero}
 use Rattle.js_meaning.specs.Values.{Text, Value, undefined, null, truth, int, nan, text, object}
 
 -- ToBoolean (7.1.2)

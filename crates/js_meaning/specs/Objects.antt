@@ -1,6 +1,5 @@
 -- Objects: their keys, and reading and writing of properties. What the path decides is an end without an item.
 use Rattle.std.specs.Prelude.{ℕ, ◌+◌, ◌-◌, ◌*◌, ◌==◌, pos, nat_le, nat_lt, Bool, true, false, not, ◌&&◌, ◌||◌, bytes_eq, length, List, [], ◌∷◌, ◌++◌, map, filter, filter_map, Option, Some, None, is_some, unwrap_or, Result, Ok, Err, slice_index_or, slice_set, decimal, codes, if◌then◌else◌}
-use Rattle.std.specs.Str.{all_ascii_digits}
 use Rattle.path_core.specs.declared.path.ErrorName.{ErrorName}
 use Rattle.path_core.specs.declared.path.ErrorName.TheVariants as kind
 use Rattle.path_core.specs.declared.path.Why.TheVariants as why
@@ -18,38 +17,6 @@ look_up key (p ∷ ps) = if bytes_eq key p.0 then Some p.1 else look_up key ps
 abbrev pub put : List (Text × Value) → Text → Value → List (Text × Value)
 put [] key x = (key, x) ∷ []
 put (p ∷ ps) key x = if bytes_eq key p.0 then (p.0, x) ∷ ps else p ∷ put ps key x
-
--- the number of the digits, behind those already read
-abbrev pub read_on : ℕ → List ℕ → ℕ
-read_on n [] = n
-read_on n (d ∷ ds) = read_on (10 * n + (d - 48)) ds
-
-abbrev pub number_from : List ℕ → Option ℕ
-number_from ds = if all_ascii_digits ds && nat_le (read_on 0 ds) 4294967294 then Some (read_on 0 ds) else None
-
--- a single unit, or several of which the first is no zero
-abbrev pub begins_well : Text → Bool
-begins_well [] = false
-begins_well (c ∷ []) = true
-begins_well (c ∷ d ∷ ds) = not (c == 48)
-
--- the number of an array index (6.1.7): the decimal text of a whole number from 0 to 2^32 - 2
-abbrev pub array_index : Text → Option ℕ
-array_index key = if begins_well key then number_from key else None
-
--- the number at its place among ascending ones
-abbrev pub placed : ℕ → List ℕ → List ℕ
-placed n [] = n ∷ []
-placed n (m ∷ ms) = if nat_lt n m then n ∷ m ∷ ms else (if nat_lt m n then m ∷ placed n ms else m ∷ ms)
-
-abbrev pub ascending : List ℕ → List ℕ
-ascending [] = []
-ascending (n ∷ ns) = placed n (ascending ns)
-
--- OrdinaryOwnPropertyKeys (10.1.11.1), of keys in the order of their creation: array indexes ascending, then the others
-abbrev pub own_keys : List Text → List Text
-own_keys created =
-    map decimal (ascending (filter_map array_index created)) ++ filter (λ key. not (is_some (array_index key))) created
 
 -- ---- objects
 

@@ -13,7 +13,7 @@ use Rattle.js_ast.specs.declared.operators.StepOp.{StepOp}
 use Rattle.js_ast.specs.declared.operators.StepOp.TheVariants.{Increment, Decrement}
 use Rattle.js_ast.specs.declared.operators.LogicalOp.{LogicalOp}
 use Rattle.js_ast.specs.declared.operators.LogicalOp.TheVariants as logic
-use Rattle.js_meaning.specs.Numbers.{Number, fits, add, subtract, multiply, divides, divide, remainder, negate, to_int32, bitwise, complement, shift_left, shift_right, shift_right_zero, less, at_most, equal}
+use Rattle.js_values.specs.Numbers.{Number, fits, add, subtract, multiply, divides, divide, remainder, negate, to_int32, bitwise, complement, shift_left, shift_right, shift_right_zero, less, at_most, equal}
 use Rattle.js_meaning.specs.Values.{Text, Value, undefined, null, truth, int, nan, text, object, Object}
 use Rattle.js_meaning.specs.Running.{Row, made, gives, guarded, giving, ending, text_limit}
 use Rattle.js_meaning.specs.Conversions.{to_boolean, number_value, bit, to_number, to_string, is_nullish, is_text}

@@ -2,7 +2,7 @@
 use Rattle.std.specs.Prelude.{◌≡◌, ℕ, ℤ, pos, negsuc, ◌≤ℤ◌, Bool, true, false, not, List, [], ◌∷◌, Option, Some, None, bit_and, bit_or, bit_xor}
 use Rattle.js_ast.specs.declared.operators.BinaryOp.{BinaryOp}
 use Rattle.js_ast.specs.declared.operators.BinaryOp.TheVariants as op
-use Rattle.js_meaning.specs.Numbers.{Number, is_safe, bitwise, shift_left, shift_right, shift_right_zero, less, at_most}
+use Rattle.js_values.specs.Numbers.{Number, is_safe, bitwise, shift_left, shift_right, shift_right_zero, less, at_most}
 use Rattle.js_meaning.specs.Values.{Value, int, truth, text}
 use Rattle.js_meaning.specs.Conversions.{to_string}
 use Rattle.js_meaning.specs.Operators.{add_numbers, subtract_row, multiply_row, divide_row, remainder_row, text_less, converted}

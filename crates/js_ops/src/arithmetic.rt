@@ -1,7 +1,7 @@
 //! Arithmetic, bits and order of numbers, as rows.
 
 ghost use Rattle.std.specs.Prelude.{◌≡◌, ◌-ℤ◌, ◌*ℤ◌, ℕ, true, Some, None};
-ghost use Rattle.js_meaning.specs.Numbers as number;
+ghost use Rattle.js_values.specs.Numbers as number;
 ghost use Rattle.js_meaning.specs.Operators.{in_range, add_numbers, subtract_row, multiply_row, divide_row, remainder_row};
 ghost use Rattle.js_ops.specs.Contents.{shown, IsRow};
 

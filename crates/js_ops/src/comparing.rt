@@ -1,7 +1,7 @@
 //! Order and equality of plain contents.
 
 ghost use Rattle.std.specs.Prelude.{◌≡◌, ◌==◌, ℕ, Bool, true, false, not};
-ghost use Rattle.js_meaning.specs.Numbers as number;
+ghost use Rattle.js_values.specs.Numbers as number;
 ghost use Rattle.js_meaning.specs.Operators.{strictly_equal};
 ghost use Rattle.term_table.specs.Views.{plain_value};
 

@@ -1,7 +1,7 @@
 //! Conversions of plain contents (ECMA-262, section 7.1).
 
 ghost use Rattle.std.specs.Prelude.{◌≡◌, ◌<◌, ◌≤◌, true, Some, None, IfOk, IfSome};
-ghost use Rattle.js_meaning.specs.Numbers.{fits};
+ghost use Rattle.js_values.specs.Numbers.{fits};
 ghost use Rattle.js_meaning.specs.Conversions.{to_boolean, to_number, to_string, is_nullish, is_text, number_value};
 ghost use Rattle.term_table.specs.Fitting.{IsValue};
 ghost use Rattle.term_table.specs.Views.{plain_value};

@@ -1,7 +1,7 @@
 //! Numbers (ECMA-262, section 6.1.6.1): a safe integer, or none for NaN.
 
 ghost use Rattle.std.specs.Prelude.{◌≡◌, ◌≤◌, ◌<◌, ◌^◌, bit_and, bit_xor, bit_or};
-ghost use Rattle.js_meaning.specs.Numbers as number;
+ghost use Rattle.js_values.specs.Numbers as number;
 ghost use Rattle.js_ops.specs.Contents.{Exact, IsSmall};
 
 const MOST_SAFE: i128 = 9_007_199_254_740_991;

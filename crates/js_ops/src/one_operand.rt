@@ -2,7 +2,7 @@
 
 ghost use Rattle.std.specs.Prelude.{◌≡◌, ℕ, List, true, IfOk};
 ghost use Rattle.js_ast.specs.declared.operators.UnaryOp.TheVariants.{TypeOf};
-ghost use Rattle.js_meaning.specs.Numbers as number;
+ghost use Rattle.js_values.specs.Numbers as number;
 ghost use Rattle.js_meaning.specs.Conversions.{number_value};
 ghost use Rattle.js_meaning.specs.Operators.{unary_row, step_row, on_number, type_of};
 ghost use Rattle.js_meaning.specs.Running.{giving};

@@ -1,7 +1,7 @@
 //! The operators as rows on plain contents.
 
 ghost use Rattle.std.specs.Prelude.{◌≡◌, ℕ, true, IfOk};
-ghost use Rattle.js_meaning.specs.Numbers as number;
+ghost use Rattle.js_values.specs.Numbers as number;
 ghost use Rattle.js_meaning.specs.Running.{giving};
 ghost use Rattle.js_meaning.specs.Values.{int, truth};
 ghost use Rattle.js_meaning.specs.Operators.{binary_row, on_numbers, order_row, add_row, add_numbers, add_texts, joins};

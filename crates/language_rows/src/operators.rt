@@ -10,7 +10,7 @@ use path_core::{Bounds, End, Why};
 use sqlite_items::Items;
 use std::alloc::Global;
 use std::test::Fail;
-use term_table::{Moves, Outcome, Plain, Shadow, Table, Text};
+use term_table::{Outcome, Plain, Shadow, Table, Text};
 
 /// The operator, its sides, how many guards are shown, and the value or the reason of the end. A string stands between `'`.
 const BINARY: [(BinaryOp, &str, &str, usize, &str); 66] = [
@@ -207,23 +207,14 @@ fn reason(why: Why) -> &'static str {
     }
 }
 
-fn counted(moves: Moves) -> usize {
-    let mut left = moves;
-    let mut count = 0;
-    while left.take().is_some() {
-        count += 1;
-    }
-    count
-}
-
 /// Whether the answer shows so many guards and has the wanted value or end.
 fn is_answer(alloc: Global, found: Outcome, guards: usize, wanted: &str) -> Result<bool, NoMemory> {
     match found {
         Outcome::Value { moves, value } => {
-            Ok(counted(moves) == guards && is_content(alloc, &value.plain, wanted)?)
+            Ok(moves.len() == guards && is_content(alloc, &value.plain, wanted)?)
         }
         Outcome::Stop { moves, exit, .. } => Ok(match exit {
-            End::Left { why, .. } => counted(moves) == guards && reason(why) == wanted,
+            End::Left { why, .. } => moves.len() == guards && reason(why) == wanted,
             _ => false,
         }),
         Outcome::Raise { .. } => Ok(false),

@@ -1,6 +1,6 @@
 -- Shadows that fit a table.
 use Rattle.std.specs.Prelude.{◌≡◌, ℤ, true, List, [], ◌∷◌, slice_get, Option, Some, None}
-use Rattle.js_meaning.specs.Numbers.{is_safe}
+use Rattle.js_values.specs.Numbers.{is_safe}
 use Rattle.term_table.specs.declared.term.Term.{Term}
 use Rattle.term_table.specs.declared.term.Term.TheVariants as term
 use Rattle.term_table.specs.declared.term.TermId.{TermId}

@@ -5,7 +5,7 @@ use Rattle.path_core.specs.declared.path.Event.{Event}
 use Rattle.path_core.specs.declared.path.Event.TheVariants as event
 use Rattle.path_core.specs.declared.path.InputValue.{InputValue}
 use Rattle.re_ast.specs.Execution.{Match}
-use Rattle.js_meaning.specs.Numbers.{same}
+use Rattle.js_values.specs.Numbers.{same}
 use Rattle.js_meaning.specs.Values.{Text, Value, undefined, null, truth, int, nan, text, object}
 use Rattle.term_table.specs.declared.term.Term.{Term}
 use Rattle.term_table.specs.declared.term.Term.TheVariants as term

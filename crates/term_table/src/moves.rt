@@ -57,6 +57,19 @@ impl Moves {
         }
     }
 
+    /// How many moves there are.
+    pub fn len(&self) -> usize
+        ensures { result ≡ length self.now }
+    {
+        if self.first.is_none() {
+            return 0;
+        }
+        if self.second.is_none() {
+            return 1;
+        }
+        self.more.len() + 2
+    }
+
     /// Adds a move at the end.
     pub fn push(&mut self, next: Move) -> Result<(), NoMemory>
         ensures { OnOk result (self.new ≡ self.old ++ next ∷ []) }
