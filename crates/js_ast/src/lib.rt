@@ -5,6 +5,7 @@ mod expression;
 mod operators;
 mod parts;
 mod statement;
+mod threads;
 
 pub use expression::Expr;
 pub use operators::{BinaryOp, DeclarationKind, LogicalOp, StepOp, UnaryOp};

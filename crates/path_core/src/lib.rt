@@ -10,6 +10,7 @@ mod path;
 mod query;
 mod reading;
 mod taking;
+mod threads;
 
 pub use bounds::{Bounds, BoundsRefusal, Declared, Kind};
 pub use equality::{is_same_event, is_same_path};

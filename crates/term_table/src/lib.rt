@@ -7,6 +7,7 @@ mod shadow;
 mod table;
 mod term;
 mod text;
+mod threads;
 
 pub use moves::{Choice, Move, Moves};
 pub use outcome::{Constraint, Outcome, Run};
