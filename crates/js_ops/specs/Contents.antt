@@ -1,12 +1,13 @@
 -- Rows on plain contents.
 use Rattle.std.specs.Prelude.{◌≡◌, ℕ, ℤ, pos, negsuc, ◌≤ℤ◌, Bool, true, false, not, List, [], ◌∷◌, Option, Some, None, bit_and, bit_or, bit_xor}
+use Rattle.path_core.specs.declared.path.Why.TheVariants as why
 use Rattle.js_ast.specs.declared.operators.BinaryOp.{BinaryOp}
 use Rattle.js_ast.specs.declared.operators.BinaryOp.TheVariants as op
 use Rattle.js_values.specs.Numbers.{Number, is_safe, bitwise, shift_left, shift_right, shift_right_zero, less, at_most}
 use Rattle.js_meaning.specs.Values.{Value, int, truth, text}
 use Rattle.js_meaning.specs.Conversions.{to_string}
 use Rattle.js_meaning.specs.Operators.{add_numbers, subtract_row, multiply_row, divide_row, remainder_row, text_less, converted}
-use Rattle.js_meaning.specs.Running.{Row, passed, gives, ends, leaving, giving}
+use Rattle.js_meaning.specs.Running.{Row, passed, gives, ends, leaving, giving, ending}
 use Rattle.term_table.specs.declared.term.TermId.{TermId}
 use Rattle.term_table.specs.declared.outcome.Outcome.{Outcome}
 use Rattle.term_table.specs.declared.outcome.Outcome.TheVariants as outcome
@@ -32,6 +33,11 @@ shown site (row.Value p) = ([], gives (plain_value p))
 shown site (row.Passed why p) = (passed (leaving site why) ∷ [], gives (plain_value p))
 shown site (row.Failed why) = ([], ends (leaving site why))
 shown site (row.Ended why) = ([], ends (leaving site why))
+
+-- with both numbers, where both contents are converted
+abbrev pub of_pair : ℕ → (Number → Number → Row) → Option (Number × Number) → Row
+of_pair site go None = ending site why.Convert
+of_pair site go (Some p) = go p.0 p.1
 
 -- its value is a value of the language
 abbrev pub IsRow : Contents → Type 0

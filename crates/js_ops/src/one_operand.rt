@@ -6,7 +6,7 @@ ghost use Rattle.js_values.specs.Numbers as number;
 ghost use Rattle.js_meaning.specs.Conversions.{number_value};
 ghost use Rattle.js_meaning.specs.Operators.{unary_row, step_row, on_number, type_of};
 ghost use Rattle.js_meaning.specs.Running.{giving};
-ghost use Rattle.js_meaning.specs.Values.{Object, int, truth, text};
+ghost use Rattle.js_meaning.specs.Values.{Object, int, text};
 ghost use Rattle.term_table.specs.Fitting.{IsValue};
 ghost use Rattle.term_table.specs.Views.{plain_value};
 ghost use Rattle.js_ops.specs.Contents.{shown, IsRow, IsTold, text_row};
@@ -14,7 +14,7 @@ ghost use Rattle.js_ops.specs.Contents.{shown, IsRow, IsTold, text_row};
 use crate::arithmetic::{add, subtract};
 use crate::conversions::{number_value, to_boolean, to_number, to_string};
 use crate::numbers::complement;
-use crate::row::Row;
+use crate::row::{Row, truth, whole};
 use js_ast::{StepOp, UnaryOp};
 use js_units::{NoMemory, Units};
 use path_core::Why;
@@ -53,13 +53,6 @@ fn negated(n: Option<i64>) -> Option<i64>
     }
 }
 
-fn truth(holds: bool) -> Row
-    ensures row { (site : ℕ) → shown site result ≡ giving (truth holds) }
-    ensures whole { IsRow result }
-{
-    Row::Value(Plain::Bool(holds))
-}
-
 /// `+` before its operand (section 13.5.4).
 fn plus(x: &Plain) -> Row
     requires { IsValue x.now }
@@ -91,7 +84,7 @@ fn inverted(x: &Plain) -> Row
     ensures whole { IsRow result }
 {
     match to_number(x) {
-        Some(n) => Row::Value(Plain::Int(complement(n))),
+        Some(n) => whole(complement(n)),
         None => Row::Ended { why: Why::Convert },
     }
 }

@@ -1,6 +1,10 @@
 //! What a row comes to on plain contents.
 
-ghost use Rattle.std.specs.Prelude.{◌≡◌};
+ghost use Rattle.std.specs.Prelude.{◌≡◌, ℕ, true};
+ghost use Rattle.js_values.specs.Numbers.{is_safe};
+ghost use Rattle.js_meaning.specs.Running.{giving};
+ghost use Rattle.js_meaning.specs.Values.{int, truth};
+ghost use Rattle.js_ops.specs.Contents.{shown, IsRow};
 ghost use Rattle.js_ops.specs.declared.row.Row.TheVariants.{Passed};
 
 use path_core::Why;
@@ -24,4 +28,21 @@ pub fn guarded(why: Why, value: Plain) -> Row
     ensures { result ≡ Passed why value }
 {
     Row::Passed { why, value }
+}
+
+/// A boolean.
+pub fn truth(holds: bool) -> Row
+    ensures row { (site : ℕ) → shown site result ≡ giving (truth holds) }
+    ensures whole { IsRow result }
+{
+    Row::Value(Plain::Bool(holds))
+}
+
+/// A safe integer.
+pub fn whole(n: i64) -> Row
+    requires { is_safe n ≡ true }
+    ensures row { (site : ℕ) → shown site result ≡ giving (int n) }
+    ensures whole { IsRow result }
+{
+    Row::Value(Plain::Int(n))
 }

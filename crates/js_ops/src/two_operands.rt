@@ -1,19 +1,20 @@
 //! The operators as rows on plain contents.
 
-ghost use Rattle.std.specs.Prelude.{◌≡◌, ℕ, true, IfOk};
+ghost use Rattle.std.specs.Prelude.{◌≡◌, ℕ, true, IfOk, IfSome};
+ghost use Rattle.js_values.specs.Numbers.{Number};
 ghost use Rattle.js_values.specs.Numbers as number;
-ghost use Rattle.js_meaning.specs.Running.{giving};
-ghost use Rattle.js_meaning.specs.Values.{int, truth};
+ghost use Rattle.js_meaning.specs.Running.{Row as SpecRow, giving};
+ghost use Rattle.js_meaning.specs.Values.{truth};
 ghost use Rattle.js_meaning.specs.Operators.{binary_row, on_numbers, order_row, add_row, add_numbers, add_texts, joins};
 ghost use Rattle.term_table.specs.Fitting.{IsValue};
 ghost use Rattle.term_table.specs.Views.{plain_value};
-ghost use Rattle.js_ops.specs.Contents.{shown, IsRow, numbers_row, units_order, numbers_order};
+ghost use Rattle.js_ops.specs.Contents.{shown, IsRow, of_pair, numbers_row, units_order, numbers_order};
 
 use crate::arithmetic::{add, divide, multiply, remainder, subtract};
 use crate::comparing::{are_equal, at_most, less};
 use crate::conversions::{is_text, to_number, to_string};
 use crate::numbers::{bit_and, bit_or, bit_xor, shift_left, shift_right, shift_right_zero};
-use crate::row::Row;
+use crate::row::{Row, truth, whole};
 use crate::texts::{is_less, join};
 use js_ast::BinaryOp;
 use js_units::NoMemory;
@@ -35,19 +36,17 @@ fn add_texts(alloc: Global, x: &Plain, y: &Plain) -> Result<Row, NoMemory>
     join(alloc, &first, &second)
 }
 
-fn whole(n: i64) -> Row
-    requires { number.is_safe n ≡ true }
-    ensures row { (site : ℕ) → shown site result ≡ giving (int n) }
-    ensures whole { IsRow result }
+/// Both contents as numbers, the left one first; none where one isn't converted.
+fn numbers(x: &Plain, y: &Plain) -> Option<(Option<i64>, Option<i64>)>
+    requires x { IsValue x.now }
+    requires y { IsValue y.now }
+    ensures row { (site : ℕ) → (go : Number → Number → SpecRow) → on_numbers site go (plain_value x.now) (plain_value y.now) ≡ of_pair site go result }
+    ensures first { IfSome result (λ p. number.fits p.0 ≡ true) }
+    ensures second { IfSome result (λ p. number.fits p.1 ≡ true) }
 {
-    Row::Value(Plain::Int(n))
-}
-
-fn truth(holds: bool) -> Row
-    ensures row { (site : ℕ) → shown site result ≡ giving (truth holds) }
-    ensures whole { IsRow result }
-{
-    Row::Value(Plain::Bool(holds))
+    let m = to_number(x)?;
+    let n = to_number(y)?;
+    Some((m, n))
 }
 
 /// What an operator gives of two numbers.
@@ -81,13 +80,10 @@ fn by_numbers(op: BinaryOp, x: &Plain, y: &Plain) -> Row
     ensures row { (site : ℕ) → shown site result ≡ on_numbers site (λ m n. numbers_row op site m n) (plain_value x.now) (plain_value y.now) }
     ensures whole { IsRow result }
 {
-    let Some(m) = to_number(x) else {
-        return Row::Ended { why: Why::Convert };
-    };
-    let Some(n) = to_number(y) else {
-        return Row::Ended { why: Why::Convert };
-    };
-    of_numbers(op, m, n)
+    match numbers(x, y) {
+        Some((m, n)) => of_numbers(op, m, n),
+        None => Row::Ended { why: Why::Convert },
+    }
 }
 
 /// Number::add of two contents that are converted to numbers.
@@ -97,13 +93,10 @@ fn sum(x: &Plain, y: &Plain) -> Row
     ensures row { (site : ℕ) → shown site result ≡ on_numbers site (add_numbers site) (plain_value x.now) (plain_value y.now) }
     ensures whole { IsRow result }
 {
-    let Some(m) = to_number(x) else {
-        return Row::Ended { why: Why::Convert };
-    };
-    let Some(n) = to_number(y) else {
-        return Row::Ended { why: Why::Convert };
-    };
-    add(m, n)
+    match numbers(x, y) {
+        Some((m, n)) => add(m, n),
+        None => Row::Ended { why: Why::Convert },
+    }
 }
 
 /// Whether an operator of order holds of two strings.
@@ -140,13 +133,10 @@ fn in_size(op: BinaryOp, x: &Plain, y: &Plain) -> Row
     ensures row { (site : ℕ) → shown site result ≡ on_numbers site (λ m n. giving (truth (numbers_order op m n))) (plain_value x.now) (plain_value y.now) }
     ensures whole { IsRow result }
 {
-    let Some(m) = to_number(x) else {
-        return Row::Ended { why: Why::Convert };
-    };
-    let Some(n) = to_number(y) else {
-        return Row::Ended { why: Why::Convert };
-    };
-    truth(by_size(op, m, n))
+    match numbers(x, y) {
+        Some((m, n)) => truth(by_size(op, m, n)),
+        None => Row::Ended { why: Why::Convert },
+    }
 }
 
 /// Two strings by their units, other contents by their numbers (section 7.2.12).
