@@ -1,6 +1,9 @@
 -- Rows on plain contents.
 use Rattle.std.specs.Prelude.{◌≡◌, ℕ, ℤ, pos, negsuc, ◌≤ℤ◌, Bool, true, false, not, List, [], ◌∷◌, Option, Some, None, bit_and, bit_or, bit_xor}
 use Rattle.path_core.specs.declared.path.Why.TheVariants as why
+use Rattle.path_core.specs.declared.path.End.{End}
+use Rattle.path_core.specs.declared.path.End.TheVariants.{Left}
+use Rattle.js_meaning.specs.Apart.{Guarding}
 use Rattle.js_ast.specs.declared.operators.BinaryOp.{BinaryOp}
 use Rattle.js_ast.specs.declared.operators.BinaryOp.TheVariants as op
 use Rattle.js_values.specs.Numbers.{Number, is_safe, bitwise, shift_left, shift_right, shift_right_zero, less, at_most}
@@ -39,12 +42,12 @@ abbrev pub of_pair : ℕ → (Number → Number → Row) → Option (Number × N
 of_pair site go None = ending site why.Convert
 of_pair site go (Some p) = go p.0 p.1
 
--- its value is a value of the language
+-- its value is a value of the language, and its reason is one of a guard exactly where a guard failed
 abbrev pub IsRow : Contents → Type 0
 IsRow (row.Value p) = IsValue p
 IsRow (row.Passed why p) = IsValue p
-IsRow (row.Failed why) = Unit {0}
-IsRow (row.Ended why) = Unit {0}
+IsRow (row.Failed why) = Guarding why
+IsRow (row.Ended why) = Guarding why → ⊥
 
 -- what an operator of numbers alone gives
 unfoldable pub numbers_row : BinaryOp → ℕ → Number → Number → Row
@@ -86,7 +89,10 @@ abbrev pub text_row : ℕ → Value → Row
 text_row site x = converted site (to_string x) (λ t. giving (text t))
 
 -- the guard that stopped a run is named, and what the kinds decide names none
-abbrev pub Guarded : Contents → Outcome → Type 0
-Guarded (row.Failed why) (outcome.Stop moves failed exit) = (id : TermId) × (failed ≡ Some id)
-Guarded (row.Ended why) (outcome.Stop moves failed exit) = failed ≡ None
-Guarded _ _ = Unit {0}
+abbrev pub IsNamed : End → Option TermId → Type 0
+IsNamed (Left site why turns ended) failed = (Guarding why → (id : TermId) × (failed ≡ Some id)) × ((Guarding why → ⊥) → failed ≡ None)
+IsNamed _ failed = Unit {0}
+
+abbrev pub NamesGuard : Outcome → Type 0
+NamesGuard (outcome.Stop moves failed exit) = IsNamed exit failed
+NamesGuard _ = Unit {0}

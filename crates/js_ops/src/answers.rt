@@ -1,12 +1,13 @@
 //! Rows on plain contents answered with moves.
 
 ghost use Rattle.std.specs.Prelude.{◌≡◌, None, IfOk};
+ghost use Rattle.js_meaning.specs.Apart.{Guarding};
 ghost use Rattle.js_meaning.specs.Running.{leaving};
 ghost use Rattle.term_table.specs.Fitting.{FitsOutcome};
 ghost use Rattle.term_table.specs.Views.{View, Agrees};
 ghost use Rattle.term_table.specs.Walking.{Shows};
 ghost use Rattle.term_table.specs.Fitting.{IsValue};
-ghost use Rattle.js_ops.specs.Contents.{shown, IsRow, Guarded};
+ghost use Rattle.js_ops.specs.Contents.{shown, IsRow, NamesGuard};
 ghost use Rattle.js_ops.specs.declared.row.Row.TheVariants.{Passed, Failed};
 
 use crate::row::Row;
@@ -44,6 +45,7 @@ fn passed(
     requires { IsValue value }
     ensures shows { (view : View) → Agrees view table.now → IfOk result (λ o. Shows view site o (shown site (Passed why value))) }
     ensures fits { IfOk result (λ o. FitsOutcome table.now o) }
+    ensures guarded { IfOk result (λ o. NamesGuard o) }
 {
     let mut moves = Moves::new(alloc);
     let term = table.flag(true);
@@ -55,9 +57,10 @@ fn passed(
 
 /// The end of a guard that failed. Its term is the constant false.
 fn failed(alloc: Global, table: &Table, site: u32, why: Why) -> Outcome
+    requires { Guarding why }
     ensures shows { (view : View) → Agrees view table.now → Shows view site result (shown site (Failed why)) }
     ensures fits { FitsOutcome table.now result }
-    ensures guarded { Guarded (Failed why) result }
+    ensures guarded { NamesGuard result }
 {
     let moves = Moves::new(alloc);
     let term = table.flag(false);
@@ -74,7 +77,7 @@ pub fn answered(alloc: Global, table: &Table, site: u32, row: Row) -> Result<Out
     requires { IsRow row }
     ensures shows { (view : View) → Agrees view table.now → IfOk result (λ o. Shows view site o (shown site row)) }
     ensures fits { IfOk result (λ o. FitsOutcome table.now o) }
-    ensures guarded { IfOk result (λ o. Guarded row o) }
+    ensures guarded { IfOk result (λ o. NamesGuard o) }
 {
     match row {
         Row::Value(value) => {

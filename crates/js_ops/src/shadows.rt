@@ -9,7 +9,7 @@ ghost use Rattle.term_table.specs.Fitting.{Fits, FitsOutcome};
 ghost use Rattle.term_table.specs.Growing.{Grown};
 ghost use Rattle.term_table.specs.Views.{View, Agrees, at};
 ghost use Rattle.term_table.specs.Walking.{Meets};
-ghost use Rattle.js_ops.specs.Contents.{IsTold, text_row};
+ghost use Rattle.js_ops.specs.Contents.{IsTold, NamesGuard, text_row};
 
 use crate::answers::answered;
 use crate::{conversions, one_operand as contents, two_operands};
@@ -31,6 +31,7 @@ pub fn binary(
     requires b { Fits table.old b.now }
     ensures meets { IfOk result (λ o. Meets table.old table.new site (λ view. binary_row op site (at view a.now) (at view b.now)) o) }
     ensures fits { IfOk result (λ o. FitsOutcome table.new o) }
+    ensures guarded { IfOk result (λ o. NamesGuard o) }
     ensures grown { Grown table.old table.new }
 {
     let row = two_operands::binary(alloc, op, &a.plain, &b.plain)?;
@@ -50,6 +51,7 @@ pub fn unary(
     requires told { op ≡ TypeOf → IsTold a.now.plain }
     ensures meets { (objects : List Object) → IfOk result (λ o. Meets table.old table.new site (λ view. unary_row op site (at view a.now) objects) o) }
     ensures fits { IfOk result (λ o. FitsOutcome table.new o) }
+    ensures guarded { IfOk result (λ o. NamesGuard o) }
     ensures grown { Grown table.old table.new }
 {
     let row = contents::unary(alloc, op, &a.plain)?;
@@ -68,6 +70,7 @@ pub fn step(
     requires { Fits table.old a.now }
     ensures meets { IfOk result (λ o. Meets table.old table.new site (λ view. step_row op site (at view a.now)) o) }
     ensures fits { IfOk result (λ o. FitsOutcome table.new o) }
+    ensures guarded { IfOk result (λ o. NamesGuard o) }
     ensures grown { Grown table.old table.new }
 {
     let row = contents::step(op, &a.plain);
@@ -80,6 +83,7 @@ pub fn to_text(alloc: Global, table: &mut Table, site: u32, a: &Shadow) -> Resul
     requires { Fits table.old a.now }
     ensures meets { IfOk result (λ o. Meets table.old table.new site (λ view. text_row site (at view a.now)) o) }
     ensures fits { IfOk result (λ o. FitsOutcome table.new o) }
+    ensures guarded { IfOk result (λ o. NamesGuard o) }
     ensures grown { Grown table.old table.new }
 {
     let row = contents::text(alloc, &a.plain)?;
