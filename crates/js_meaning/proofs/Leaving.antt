@@ -475,3 +475,48 @@ name_in_brackets_script = (express 0 (call (leaf (Expr-F.Name (named 0 (codes "u
 name_in_brackets : goes 10 [] [] name_in_brackets_script ≡ ([], Left 10 why.Name 0 0)
 unfolding count turn new_object call_builtin construct get_row bracket_row set_row test_row logical_row binary_row unary_row step_row open_cell init_name find_name read_name put_name digits
 name_in_brackets = path_is 10 [] [] name_in_brackets_script refl
+
+-- [].keys();
+abbrev listed_of_array_script : List KnownStmt
+listed_of_array_script = (express 0 (call (array 0 []) (get (dot 2 (codes "keys")) ∷ call_ 7 [] ∷ [])) ∷ [])
+
+listed_of_array : goes 10 [] [] listed_of_array_script ≡ ([], Left 7 why.Builtin 0 0)
+unfolding count turn new_object call_builtin construct get_row bracket_row set_row test_row logical_row binary_row unary_row step_row open_cell init_name find_name read_name put_name digits
+listed_of_array = path_is 10 [] [] listed_of_array_script refl
+
+-- (5).slice(1);
+abbrev method_of_number_script : List KnownStmt
+method_of_number_script = (express 0 (call (leaf (Expr-F.Number 1 5)) (get (dot 3 (codes "slice")) ∷ call_ 9 (leaf
+    (Expr-F.Number 10 1) ∷ []) ∷ [])) ∷ [])
+
+method_of_number : goes 10 [] [] method_of_number_script ≡ ([], Left 9 why.Builtin 0 0)
+unfolding count turn new_object call_builtin construct get_row bracket_row set_row test_row logical_row binary_row unary_row step_row open_cell init_name find_name read_name put_name digits
+method_of_number = path_is 10 [] [] method_of_number_script refl
+
+-- ({}).charAt(0);
+abbrev method_of_plain_script : List KnownStmt
+method_of_plain_script = (express 0 (call (object 1 []) (get (dot 4 (codes "charAt")) ∷ call_ 11 (leaf (Expr-F.Number
+    12 0) ∷ []) ∷ [])) ∷ [])
+
+method_of_plain : goes 10 [] [] method_of_plain_script ≡ ([], Threw 11 (thrown.Named fault.TypeError))
+unfolding count turn new_object call_builtin construct get_row bracket_row set_row test_row logical_row binary_row unary_row step_row open_cell init_name find_name read_name put_name digits
+method_of_plain = path_is 10 [] [] method_of_plain_script refl
+
+-- "a".exec;
+abbrev pattern_method_of_text_script : List KnownStmt
+pattern_method_of_text_script = (express 0 (call (leaf (Expr-F.Text 0 (codes "a"))) (get (dot 3 (codes "exec")) ∷ []))
+    ∷ [])
+
+pattern_method_of_text : goes 10 [] [] pattern_method_of_text_script ≡ ([], Left 3 why.Builtin 0 0)
+unfolding count turn new_object call_builtin construct get_row bracket_row set_row test_row logical_row binary_row unary_row step_row open_cell init_name find_name read_name put_name digits
+pattern_method_of_text = path_is 10 [] [] pattern_method_of_text_script refl
+
+-- let o = {}; o.valueOf(foo);
+abbrev inherited_after_arguments_script : List KnownStmt
+inherited_after_arguments_script = (declare_ 0 Let ((named 4 (codes "o"), (Some (object 8 []))) ∷ []) ∷ express 12
+    (call (leaf (Expr-F.Name (named 12 (codes "o")))) (get (dot 13 (codes "valueOf")) ∷ call_ 21 (leaf (Expr-F.Name
+    (named 22 (codes "foo"))) ∷ []) ∷ [])) ∷ [])
+
+inherited_after_arguments : goes 10 [] [] inherited_after_arguments_script ≡ ([], Left 13 why.Inherited 0 0)
+unfolding count turn new_object call_builtin construct get_row bracket_row set_row test_row logical_row binary_row unary_row step_row open_cell init_name find_name read_name put_name digits
+inherited_after_arguments = path_is 10 [] [] inherited_after_arguments_script refl
