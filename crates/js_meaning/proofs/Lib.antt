@@ -13,3 +13,4 @@ pub mod Bindings
 pub mod Limits
 pub mod RowsApart
 pub mod TextOrder
+pub mod Returns
