@@ -484,3 +484,167 @@ no_this_of_or : goes 1 [] [] (no_this_of_or_script (stmt_trees no_this_of_or_bod
 )
 no_this_of_or = path_is 1 [] [] (no_this_of_or_script (stmt_trees no_this_of_or_body_1)) (no_this_of_or_run
     (stmt_trees no_this_of_or_body_1) (body_known no_this_of_or_body_1))
+
+-- if (NaN) {} if ("") {} if (undefined) {} if (null) {} if (false) {}
+abbrev falsy_script : List KnownStmt
+falsy_script = (if_ (when 0 (leaf (Expr-F.Name (named 4 (codes "NaN")))) (braces 9 []) ∷ []) ∷ if_ (when 12 (leaf
+    (Expr-F.Text 16 [])) (braces 20 []) ∷ []) ∷ if_ (when 23 (leaf (Expr-F.Name (named 27 (codes "undefined"))))
+    (braces 38 []) ∷ []) ∷ if_ (when 41 (leaf (Expr-F.Null 45)) (braces 51 []) ∷ []) ∷ if_ (when 54 (leaf
+    (Expr-F.False 58)) (braces 65 []) ∷ []) ∷ [])
+
+falsy : goes 10 [] [] falsy_script ≡ (
+  (branched 0 0 ∷ branched 12 0 ∷ branched 23 0 ∷ branched 41 0 ∷ branched 54 0 ∷
+      []),
+  Done,
+)
+unfolding count turn new_object call_builtin construct get_row bracket_row set_row test_row logical_row binary_row unary_row step_row open_cell init_name find_name read_name put_name digits
+falsy = path_is 10 [] [] falsy_script refl
+
+-- if (-1) {} if ("0") {} if ([]) {} if ({}) {} if (true) {}
+abbrev truthy_script : List KnownStmt
+truthy_script = (if_ (when 0 (unary 4 un.Minus (leaf (Expr-F.Number 5 1))) (braces 8 []) ∷ []) ∷ if_ (when 11 (leaf
+    (Expr-F.Text 15 (codes "0"))) (braces 20 []) ∷ []) ∷ if_ (when 23 (array 27 []) (braces 31 []) ∷ []) ∷ if_ (when
+    34 (object 38 []) (braces 42 []) ∷ []) ∷ if_ (when 45 (leaf (Expr-F.True 49)) (braces 55 []) ∷ []) ∷ [])
+
+truthy : goes 10 [] [] truthy_script ≡ (
+  (branched 0 1 ∷ branched 11 1 ∷ branched 23 1 ∷ branched 34 1 ∷ branched 45 1
+      ∷ []),
+  Done,
+)
+unfolding count turn new_object call_builtin construct get_row bracket_row set_row test_row logical_row binary_row unary_row step_row open_cell init_name find_name read_name put_name digits
+truthy = path_is 10 [] [] truthy_script refl
+
+-- if (!NaN === true) {} if (+true === 1) {} if (-null === 0) {} if (typeof true === "boolean") {} if (typeof undefined === "undefined") {}
+abbrev nots_script : List KnownStmt
+nots_script = (if_ (when 0 (binary (unary 4 un.Not (leaf (Expr-F.Name (named 5 (codes "NaN"))))) (link 9 op.Equal
+    (leaf (Expr-F.True 13)) ∷ [])) (braces 19 []) ∷ []) ∷ if_ (when 22 (binary (unary 26 un.Plus (leaf (Expr-F.True
+    27))) (link 32 op.Equal (leaf (Expr-F.Number 36 1)) ∷ [])) (braces 39 []) ∷ []) ∷ if_ (when 42 (binary (unary 46
+    un.Minus (leaf (Expr-F.Null 47))) (link 52 op.Equal (leaf (Expr-F.Number 56 0)) ∷ [])) (braces 59 []) ∷ []) ∷ if_
+    (when 62 (binary (unary 66 un.TypeOf (leaf (Expr-F.True 73))) (link 78 op.Equal (leaf (Expr-F.Text 82 (codes
+    "boolean"))) ∷ [])) (braces 93 []) ∷ []) ∷ if_ (when 96 (binary (unary 100 un.TypeOf (leaf (Expr-F.Name (named 107
+    (codes "undefined"))))) (link 117 op.Equal (leaf (Expr-F.Text 121 (codes "undefined"))) ∷ [])) (braces 134 []) ∷
+    []) ∷ [])
+
+nots : goes 10 [] [] nots_script ≡ (
+  (branched 0 1 ∷ branched 22 1 ∷ branched 42 1 ∷ branched 62 1 ∷ branched 96 1 ∷
+      []),
+  Done,
+)
+unfolding count turn new_object call_builtin construct get_row bracket_row set_row test_row logical_row binary_row unary_row step_row open_cell init_name find_name read_name put_name digits
+nots = path_is 10 [] [] nots_script refl
+
+-- if ((5 | 8) === 13) {} if ((6 ^ 3) === 5) {} if (-8 >>> 0 === 4294967288) {} if (2147483648 >> 0 === -2147483648) {} if (~NaN === -1) {}
+abbrev more_bits_script : List KnownStmt
+more_bits_script = (if_ (when 0 (binary (binary (leaf (Expr-F.Number 5 5)) (link 7 op.BitOr (leaf (Expr-F.Number 9 8))
+    ∷ [])) (link 12 op.Equal (leaf (Expr-F.Number 16 13)) ∷ [])) (braces 20 []) ∷ []) ∷ if_ (when 23 (binary (binary
+    (leaf (Expr-F.Number 28 6)) (link 30 op.BitXor (leaf (Expr-F.Number 32 3)) ∷ [])) (link 35 op.Equal (leaf
+    (Expr-F.Number 39 5)) ∷ [])) (braces 42 []) ∷ []) ∷ if_ (when 45 (binary (binary (unary 49 un.Minus (leaf
+    (Expr-F.Number 50 8))) (link 52 op.ShiftRightZero (leaf (Expr-F.Number 56 0)) ∷ [])) (link 58 op.Equal (leaf
+    (Expr-F.Number 62 4294967288)) ∷ [])) (braces 74 []) ∷ []) ∷ if_ (when 77 (binary (binary (leaf (Expr-F.Number 81
+    2147483648)) (link 92 op.ShiftRight (leaf (Expr-F.Number 95 0)) ∷ [])) (link 97 op.Equal (unary 101 un.Minus (leaf
+    (Expr-F.Number 102 2147483648))) ∷ [])) (braces 114 []) ∷ []) ∷ if_ (when 117 (binary (unary 121 un.Complement
+    (leaf (Expr-F.Name (named 122 (codes "NaN"))))) (link 126 op.Equal (unary 130 un.Minus (leaf (Expr-F.Number 131
+    1))) ∷ [])) (braces 134 []) ∷ []) ∷ [])
+
+more_bits : goes 10 [] [] more_bits_script ≡ (
+  (branched 0 1 ∷ branched 23 1 ∷ branched 45 1 ∷ branched 77 1 ∷ branched
+      117 1 ∷ []),
+  Done,
+)
+unfolding count turn new_object call_builtin construct get_row bracket_row set_row test_row logical_row binary_row unary_row step_row open_cell init_name find_name read_name put_name digits
+more_bits = path_is 10 [] [] more_bits_script refl
+
+-- if (2 > 1) {} if (1 >= 2) {} if ("b" > "ab") {} if ("a" <= "a") {} if (true > false) {}
+abbrev more_orders_script : List KnownStmt
+more_orders_script = (if_ (when 0 (binary (leaf (Expr-F.Number 4 2)) (link 6 op.Greater (leaf (Expr-F.Number 8 1)) ∷
+    [])) (braces 11 []) ∷ []) ∷ if_ (when 14 (binary (leaf (Expr-F.Number 18 1)) (link 20 op.GreaterEqual (leaf
+    (Expr-F.Number 23 2)) ∷ [])) (braces 26 []) ∷ []) ∷ if_ (when 29 (binary (leaf (Expr-F.Text 33 (codes "b"))) (link
+    37 op.Greater (leaf (Expr-F.Text 39 (codes "ab"))) ∷ [])) (braces 45 []) ∷ []) ∷ if_ (when 48 (binary (leaf
+    (Expr-F.Text 52 (codes "a"))) (link 56 op.LessEqual (leaf (Expr-F.Text 59 (codes "a"))) ∷ [])) (braces 64 []) ∷
+    []) ∷ if_ (when 67 (binary (leaf (Expr-F.True 71)) (link 76 op.Greater (leaf (Expr-F.False 78)) ∷ [])) (braces 85
+    []) ∷ []) ∷ [])
+
+more_orders : goes 10 [] [] more_orders_script ≡ (
+  (branched 0 1 ∷ branched 14 0 ∷ branched 29 1 ∷ branched 48 1 ∷
+      branched 67 1 ∷ []),
+  Done,
+)
+unfolding count turn new_object call_builtin construct get_row bracket_row set_row test_row logical_row binary_row unary_row step_row open_cell init_name find_name read_name put_name digits
+more_orders = path_is 10 [] [] more_orders_script refl
+
+-- if (1 !== true) {} if (NaN !== NaN) {} if ("1" === 1) {} if (null === null) {}
+abbrev not_equal_script : List KnownStmt
+not_equal_script = (if_ (when 0 (binary (leaf (Expr-F.Number 4 1)) (link 6 op.NotEqual (leaf (Expr-F.True 10)) ∷ []))
+    (braces 16 []) ∷ []) ∷ if_ (when 19 (binary (leaf (Expr-F.Name (named 23 (codes "NaN")))) (link 27 op.NotEqual
+    (leaf (Expr-F.Name (named 31 (codes "NaN")))) ∷ [])) (braces 36 []) ∷ []) ∷ if_ (when 39 (binary (leaf
+    (Expr-F.Text 43 (codes "1"))) (link 47 op.Equal (leaf (Expr-F.Number 51 1)) ∷ [])) (braces 54 []) ∷ []) ∷ if_
+    (when 57 (binary (leaf (Expr-F.Null 61)) (link 66 op.Equal (leaf (Expr-F.Null 70)) ∷ [])) (braces 76 []) ∷ []) ∷
+    [])
+
+not_equal : goes 10 [] [] not_equal_script ≡ (
+  (branched 0 1 ∷ branched 19 1 ∷ branched 39 0 ∷ branched 57 1 ∷ []),
+  Done,
+)
+unfolding count turn new_object call_builtin construct get_row bracket_row set_row test_row logical_row binary_row unary_row step_row open_cell init_name find_name read_name put_name digits
+not_equal = path_is 10 [] [] not_equal_script refl
+
+-- let x = 7; x -= 2; x *= 6; x /= 5; x %= 4; if (x === 2) {}
+abbrev compounds_script : List KnownStmt
+compounds_script = (declare_ 0 Let ((named 4 (codes "x"), (Some (leaf (Expr-F.Number 8 7)))) ∷ []) ∷ express 11
+    (assign 11 13 (Some op.Subtract) (to_name (named 11 (codes "x"))) (leaf (Expr-F.Number 16 2))) ∷ express 19
+    (assign 19 21 (Some op.Multiply) (to_name (named 19 (codes "x"))) (leaf (Expr-F.Number 24 6))) ∷ express 27
+    (assign 27 29 (Some op.Divide) (to_name (named 27 (codes "x"))) (leaf (Expr-F.Number 32 5))) ∷ express 35 (assign
+    35 37 (Some op.Remainder) (to_name (named 35 (codes "x"))) (leaf (Expr-F.Number 40 4))) ∷ if_ (when 43 (binary
+    (leaf (Expr-F.Name (named 47 (codes "x")))) (link 49 op.Equal (leaf (Expr-F.Number 53 2)) ∷ [])) (braces 56 []) ∷
+    []) ∷ [])
+
+compounds : goes 10 [] [] compounds_script ≡ ((branched 43 1 ∷ []), Done)
+unfolding count turn new_object call_builtin construct get_row bracket_row set_row test_row logical_row binary_row unary_row step_row open_cell init_name find_name read_name put_name digits
+compounds = path_is 10 [] [] compounds_script refl
+
+compounds_steps : uses 10 [] [] compounds_script ≡ 23
+unfolding count turn new_object call_builtin construct get_row bracket_row set_row test_row logical_row binary_row unary_row step_row open_cell init_name find_name read_name put_name digits
+compounds_steps = steps_are 10 [] [] compounds_script refl
+
+-- let x = 5; x <<= 3; x >>= 1; x >>>= 1; x &= 6; x |= 9; x ^= 1; if (x === 10) {}
+abbrev more_compounds_script : List KnownStmt
+more_compounds_script = (declare_ 0 Let ((named 4 (codes "x"), (Some (leaf (Expr-F.Number 8 5)))) ∷ []) ∷ express 11
+    (assign 11 13 (Some op.ShiftLeft) (to_name (named 11 (codes "x"))) (leaf (Expr-F.Number 17 3))) ∷ express 20
+    (assign 20 22 (Some op.ShiftRight) (to_name (named 20 (codes "x"))) (leaf (Expr-F.Number 26 1))) ∷ express 29
+    (assign 29 31 (Some op.ShiftRightZero) (to_name (named 29 (codes "x"))) (leaf (Expr-F.Number 36 1))) ∷ express 39
+    (assign 39 41 (Some op.BitAnd) (to_name (named 39 (codes "x"))) (leaf (Expr-F.Number 44 6))) ∷ express 47 (assign
+    47 49 (Some op.BitOr) (to_name (named 47 (codes "x"))) (leaf (Expr-F.Number 52 9))) ∷ express 55 (assign 55 57
+    (Some op.BitXor) (to_name (named 55 (codes "x"))) (leaf (Expr-F.Number 60 1))) ∷ if_ (when 63 (binary (leaf
+    (Expr-F.Name (named 67 (codes "x")))) (link 69 op.Equal (leaf (Expr-F.Number 73 10)) ∷ [])) (braces 77 []) ∷ []) ∷
+    [])
+
+more_compounds : goes 10 [] [] more_compounds_script ≡ ((branched 63 1 ∷ []), Done)
+unfolding count turn new_object call_builtin construct get_row bracket_row set_row test_row logical_row binary_row unary_row step_row open_cell init_name find_name read_name put_name digits
+more_compounds = path_is 10 [] [] more_compounds_script refl
+
+-- if (NaN + 1 === 0) {} if (undefined * 2 === 0) {} if (typeof (NaN - 1) === "number") {}
+abbrev nan_sums_script : List KnownStmt
+nan_sums_script = (if_ (when 0 (binary (binary (leaf (Expr-F.Name (named 4 (codes "NaN")))) (link 8 op.Add (leaf
+    (Expr-F.Number 10 1)) ∷ [])) (link 12 op.Equal (leaf (Expr-F.Number 16 0)) ∷ [])) (braces 19 []) ∷ []) ∷ if_ (when
+    22 (binary (binary (leaf (Expr-F.Name (named 26 (codes "undefined")))) (link 36 op.Multiply (leaf (Expr-F.Number
+    38 2)) ∷ [])) (link 40 op.Equal (leaf (Expr-F.Number 44 0)) ∷ [])) (braces 47 []) ∷ []) ∷ if_ (when 50 (binary
+    (unary 54 un.TypeOf (binary (leaf (Expr-F.Name (named 62 (codes "NaN")))) (link 66 op.Subtract (leaf
+    (Expr-F.Number 68 1)) ∷ []))) (link 71 op.Equal (leaf (Expr-F.Text 75 (codes "number"))) ∷ [])) (braces 85 []) ∷
+    []) ∷ [])
+
+nan_sums : goes 10 [] [] nan_sums_script ≡ ((branched 0 0 ∷ branched 22 0 ∷ branched 50 1 ∷ []), Done)
+unfolding count turn new_object call_builtin construct get_row bracket_row set_row test_row logical_row binary_row unary_row step_row open_cell init_name find_name read_name put_name digits
+nan_sums = path_is 10 [] [] nan_sums_script refl
+
+-- let x; let y = x = 3; if (y === 3) {}
+abbrev assigned_value_script : List KnownStmt
+assigned_value_script = (declare_ 0 Let ((named 4 (codes "x"), None) ∷ []) ∷ declare_ 7 Let ((
+  named 11 (codes "y"),
+  (Some (assign 15 17 None (to_name (named 15 (codes "x"))) (leaf (Expr-F.Number 19 3)))),
+) ∷ []) ∷ if_ (when 22
+    (binary (leaf (Expr-F.Name (named 26 (codes "y")))) (link 28 op.Equal (leaf (Expr-F.Number 32 3)) ∷ [])) (braces
+    35 []) ∷ []) ∷ [])
+
+assigned_value : goes 10 [] [] assigned_value_script ≡ ((branched 22 1 ∷ []), Done)
+unfolding count turn new_object call_builtin construct get_row bracket_row set_row test_row logical_row binary_row unary_row step_row open_cell init_name find_name read_name put_name digits
+assigned_value = path_is 10 [] [] assigned_value_script refl

@@ -9,7 +9,7 @@ use Rattle.js_ast.specs.declared.operators.BinaryOp.TheVariants as op
 use Rattle.js_ast.specs.declared.operators.UnaryOp.TheVariants as un
 use Rattle.js_ast.specs.declared.operators.StepOp.TheVariants.{Increment}
 use Rattle.js_ast.specs.declared.operators.LogicalOp.TheVariants as logic
-use Rattle.js_ast.specs.declared.operators.DeclarationKind.TheVariants.{Let}
+use Rattle.js_ast.specs.declared.operators.DeclarationKind.TheVariants.{Let, Const}
 use Rattle.js_ast.specs.declared.expression.Expr.TheOpen.{Expr-F}
 use Rattle.js_meaning.specs.Running.{count, turn, new_object}
 use Rattle.js_meaning.specs.Builtins.{call_builtin, construct}
@@ -520,3 +520,88 @@ inherited_after_arguments_script = (declare_ 0 Let ((named 4 (codes "o"), (Some 
 inherited_after_arguments : goes 10 [] [] inherited_after_arguments_script ≡ ([], Left 13 why.Inherited 0 0)
 unfolding count turn new_object call_builtin construct get_row bracket_row set_row test_row logical_row binary_row unary_row step_row open_cell init_name find_name read_name put_name digits
 inherited_after_arguments = path_is 10 [] [] inherited_after_arguments_script refl
+
+-- let m = 9007199254740991; m += 1;
+abbrev compound_range_script : List KnownStmt
+compound_range_script = (declare_ 0 Let ((named 4 (codes "m"), (Some (leaf (Expr-F.Number 8 9007199254740991)))) ∷ [])
+    ∷ express 26 (assign 26 28 (Some op.Add) (to_name (named 26 (codes "m"))) (leaf (Expr-F.Number 31 1))) ∷ [])
+
+compound_range : goes 10 [] [] compound_range_script ≡ ([], Left 28 why.Range 0 0)
+unfolding count turn new_object call_builtin construct get_row bracket_row set_row test_row logical_row binary_row unary_row step_row open_cell init_name find_name read_name put_name digits
+compound_range = path_is 10 [] [] compound_range_script refl
+
+-- const m = 9007199254740991; m += 1;
+abbrev compound_of_const_script : List KnownStmt
+compound_of_const_script = (declare_ 0 Const ((named 6 (codes "m"), (Some (leaf (Expr-F.Number 10 9007199254740991))))
+    ∷ []) ∷ express 28 (assign 28 30 (Some op.Add) (to_name (named 28 (codes "m"))) (leaf (Expr-F.Number 33 1))) ∷ [])
+
+compound_of_const : goes 10 [] [] compound_of_const_script ≡ ([], Left 30 why.Range 0 0)
+unfolding count turn new_object call_builtin construct get_row bracket_row set_row test_row logical_row binary_row unary_row step_row open_cell init_name find_name read_name put_name digits
+compound_of_const = path_is 10 [] [] compound_of_const_script refl
+
+-- let s = "a"; s++;
+abbrev step_of_text_script : List KnownStmt
+step_of_text_script = (declare_ 0 Let ((named 4 (codes "s"), (Some (leaf (Expr-F.Text 8 (codes "a"))))) ∷ []) ∷
+    express 13 (step 13 14 Increment false (to_name (named 13 (codes "s")))) ∷ [])
+
+step_of_text : goes 10 [] [] step_of_text_script ≡ ([], Left 14 why.Convert 0 0)
+unfolding count turn new_object call_builtin construct get_row bracket_row set_row test_row logical_row binary_row unary_row step_row open_cell init_name find_name read_name put_name digits
+step_of_text = path_is 10 [] [] step_of_text_script refl
+
+-- foo.x = 1;
+abbrev property_of_unknown_script : List KnownStmt
+property_of_unknown_script = (express 0 (assign 0 6 None (to_property (leaf (Expr-F.Name (named 0 (codes "foo"))))
+    (dot 3 (codes "x"))) (leaf (Expr-F.Number 8 1))) ∷ [])
+
+property_of_unknown : goes 10 [] [] property_of_unknown_script ≡ ([], Left 0 why.Name 0 0)
+unfolding count turn new_object call_builtin construct get_row bracket_row set_row test_row logical_row binary_row unary_row step_row open_cell init_name find_name read_name put_name digits
+property_of_unknown = path_is 10 [] [] property_of_unknown_script refl
+
+-- try { null.x; } catch (e) { e.message = 1; }
+abbrev engine_message_written_script : List KnownStmt
+engine_message_written_script = (try_ 0 (express 6 (call (leaf (Expr-F.Null 6)) (get (dot 10 (codes "x")) ∷ [])) ∷ [])
+    (Some (
+      (Some (named 23 (codes "e"))),
+      (express 28 (assign 28 38 None (to_property (leaf (Expr-F.Name (named 28
+          (codes "e")))) (dot 29 (codes "message"))) (leaf (Expr-F.Number 40 1))) ∷ []),
+    )) None ∷ [])
+
+engine_message_written : goes 10 [] [] engine_message_written_script ≡ ([], Left 29 why.Set 0 0)
+unfolding count turn new_object call_builtin construct get_row bracket_row set_row test_row logical_row binary_row unary_row step_row open_cell init_name find_name read_name put_name digits
+engine_message_written = path_is 10 [] [] engine_message_written_script refl
+
+-- let f = () => 1; f.x = foo;
+abbrev function_written_value_1 : Known
+function_written_value_1 = leaf (Expr-F.Number 14 1)
+
+abbrev function_written_script : Expr → List KnownStmt
+function_written_script t1 = (declare_ 0 Let ((named 4 (codes "f"), (Some (leaf (Expr-F.Arrow 8 [] t1)))) ∷ []) ∷
+    express 17 (assign 17 21 None (to_property (leaf (Expr-F.Name (named 17 (codes "f")))) (dot 18 (codes "x"))) (leaf
+    (Expr-F.Name (named 23 (codes "foo"))))) ∷ [])
+
+function_written : goes 10 [] [] (function_written_script function_written_value_1.tree) ≡ ([], Left 23 why.Name 0 0)
+unfolding count turn new_object call_builtin construct get_row bracket_row set_row test_row logical_row binary_row unary_row step_row open_cell init_name find_name read_name put_name digits
+function_written = path_is 10 [] [] (function_written_script function_written_value_1.tree) refl
+
+-- let f = () => 1; f.x = 1;
+abbrev function_set_value_1 : Known
+function_set_value_1 = leaf (Expr-F.Number 14 1)
+
+abbrev function_set_script : Expr → List KnownStmt
+function_set_script t1 = (declare_ 0 Let ((named 4 (codes "f"), (Some (leaf (Expr-F.Arrow 8 [] t1)))) ∷ []) ∷ express
+    17 (assign 17 21 None (to_property (leaf (Expr-F.Name (named 17 (codes "f")))) (dot 18 (codes "x"))) (leaf
+    (Expr-F.Number 23 1))) ∷ [])
+
+function_set : goes 10 [] [] (function_set_script function_set_value_1.tree) ≡ ([], Left 18 why.Set 0 0)
+unfolding count turn new_object call_builtin construct get_row bracket_row set_row test_row logical_row binary_row unary_row step_row open_cell init_name find_name read_name put_name digits
+function_set = path_is 10 [] [] (function_set_script function_set_value_1.tree) refl
+
+-- let a = []; a.length = 0;
+abbrev array_length_written_script : List KnownStmt
+array_length_written_script = (declare_ 0 Let ((named 4 (codes "a"), (Some (array 8 []))) ∷ []) ∷ express 12 (assign
+    12 21 None (to_property (leaf (Expr-F.Name (named 12 (codes "a")))) (dot 13 (codes "length"))) (leaf
+    (Expr-F.Number 23 0))) ∷ [])
+
+array_length_written : goes 10 [] [] array_length_written_script ≡ ([], Left 13 why.Set 0 0)
+unfolding count turn new_object call_builtin construct get_row bracket_row set_row test_row logical_row binary_row unary_row step_row open_cell init_name find_name read_name put_name digits
+array_length_written = path_is 10 [] [] array_length_written_script refl

@@ -2,7 +2,7 @@
 -- that have ended since the last turn.
 --
 -- function f(n) { if (n === 0) return a; return f(n - 1) + a; } f(3);
-use Rattle.std.proofs.Common.{◌≡◌, ℕ, suc, ℤ, pos, true, false, List, [], ◌∷◌, codes, Option, Some, None, refl, ap, ◌∙◌}
+use Rattle.std.proofs.Common.{◌≡◌, ℕ, pos, true, List, [], ◌∷◌, codes, Some, None, refl, ap, ◌∙◌}
 use Rattle.std.specs.Fmt.{digits}
 use Rattle.path_core.specs.declared.bounds.Declared.{Declared}
 use Rattle.path_core.specs.declared.path.InputValue.TheVariants as input
@@ -16,8 +16,8 @@ use Rattle.js_ast.specs.declared.parts.Identifier.{Identifier}
 use Rattle.js_ast.specs.declared.expression.Expr.{Expr}
 use Rattle.js_ast.specs.declared.expression.Expr.TheOpen.{Expr-F, Stmt-F}
 use Rattle.js_ast.specs.declared.statement.Stmt.{Stmt}
-use Rattle.js_meaning.specs.Values.{Value, undefined, int, object as object_number, Scope, Binding, statements, function, Place}
-use Rattle.js_meaning.specs.Running.{Item, passed, made, Completion, given, returns, stops, Outcome, done, after, bind, count, turn, new_object, on_value, on_reference, on_normal}
+use Rattle.js_meaning.specs.Values.{undefined, int, object as object_number, Scope, Binding, statements, function, Place}
+use Rattle.js_meaning.specs.Running.{passed, made, given, returns, Outcome, done, after, bind, count, turn, new_object, on_value, on_reference, on_normal}
 use Rattle.js_meaning.specs.Builtins.{call_builtin, construct}
 use Rattle.js_meaning.specs.Objects.{get_row, bracket_row, set_row}
 use Rattle.js_meaning.specs.Operators.{test_row, logical_row, binary_row, unary_row, step_row}
@@ -26,7 +26,7 @@ use Rattle.js_meaning.specs.Parts.{Meaning, chain, links}
 use Rattle.js_meaning.specs.Blocks.{plain_code, run_all}
 use Rattle.js_meaning.specs.Meaning.{meaning_of, body_of, calls_in, returned, gives_nothing}
 use Rattle.js_meaning.specs.Path.{path_by}
-use Rattle.js_meaning.proofs.Known.{Known, KnownLink, named, leaf, link, link_pairs, binary, call_, call}
+use Rattle.js_meaning.proofs.Known.{KnownLink, named, leaf, link, link_pairs, binary, call_, call}
 use Rattle.js_meaning.proofs.KnownStatements.{KnownStmt, stmt_trees, known_block, body_known, still, express, return_}
 use Rattle.js_meaning.proofs.KnownForms.{when, if_}
 use Rattle.js_meaning.proofs.Runs.{whole, branched, goes, runs, shown, path_is}
@@ -42,9 +42,9 @@ plus_a = link 55 op.Add (leaf (Expr-F.Name (named 57 (codes "a")))) ∷ []
 
 abbrev body : List KnownStmt
 body = if_ (when 16 (binary (leaf (Expr-F.Name (named 20 (codes "n")))) (link 22 op.Equal (leaf (Expr-F.Number 26 0)) ∷ []))
-        (return_ 29 (leaf (Expr-F.Name (named 36 (codes "a"))))) ∷ [])
+    (return_ 29 (leaf (Expr-F.Name (named 36 (codes "a"))))) ∷ [])
     ∷ return_ 39 (binary (call (leaf (Expr-F.Name (named 46 (codes "f"))))
-        (call_ 47 (binary (leaf (Expr-F.Name (named 48 (codes "n")))) (link 50 op.Subtract (leaf (Expr-F.Number 52 1)) ∷ []) ∷ []) ∷ [])) plus_a) ∷ []
+    (call_ 47 (binary (leaf (Expr-F.Name (named 48 (codes "n")))) (link 50 op.Subtract (leaf (Expr-F.Number 52 1)) ∷ []) ∷ []) ∷ [])) plus_a) ∷ []
 
 abbrev script : List Stmt → List KnownStmt
 script ss = still (Stmt-F.Function 0 (named 9 (codes "f")) parameters ss)
@@ -62,17 +62,24 @@ bound_n n = record { name = codes "n"; is_mutable = true; outer = Some 0; value 
 -- f, and these bindings of n
 abbrev at : List Stmt → List Binding → ℕ → ℕ → ℕ → ℕ → Place
 at ss further events turns ended nodes = record {
-    run = record { inputs = (codes "a", int (pos 4503599627370495)) ∷ []; turns = 4; answers = [] };
-    cells = record { name = codes "f"; is_mutable = true; outer = None; value = Some (object_number 0) } ∷ further;
-    objects = record { class = function (plain_code parameters ss (inside 0)); properties = []; items = [] } ∷ [];
-    events = events; turns = turns; ended = ended; nodes = nodes; joins = 0; execs = 0 }
+  run = record { inputs = (codes "a", int (pos 4503599627370495)) ∷ []; turns = 4; answers = [] };
+  cells = record { name = codes "f"; is_mutable = true; outer = None; value = Some (object_number 0) } ∷ further;
+  objects = record { class = function (plain_code parameters ss (inside 0)); properties = []; items = [] } ∷ [];
+  events = events;
+  turns = turns;
+  ended = ended;
+  nodes = nodes;
+  joins = 0;
+  execs = 0;
+}
+
 -- what an activation does with the outcome of the call inside it
 abbrev behind : ℕ → ℕ → ℕ → Outcome → Outcome
 behind m k turns o =
     bind (after (made (branched 16 0) ∷ []) (bind (bind (bind (after (passed (Left 50 why.Range turns 0) ∷ [])
-        (bind o (on_reference (chain (meaning_of {T = Expr}) [] (calls_in m) m (inside k)))))
-        (on_value (links meaning_of (link_pairs plus_a) (calls_in m) m (inside k))))
-        (on_value (λ x st. done st (returns x)))) (on_normal (run_all [] (calls_in m) m (inside k))))) returned
+    (bind o (on_reference (chain (meaning_of {T = Expr}) [] (calls_in m) m (inside k)))))
+    (on_value (links meaning_of (link_pairs plus_a) (calls_in m) m (inside k))))
+    (on_value (λ x st. done st (returns x)))) (on_normal (run_all [] (calls_in m) m (inside k))))) returned
 
 -- an activation with its binding of n
 abbrev activation : ℕ → ℕ → Meaning → Place → Outcome
