@@ -138,7 +138,7 @@ for_head (head.Declare kind ds) calls k outer go st =
     open_names (declared_of kind ds) outer st (λ scope st.
     bind (declare meaning_of ds calls k scope st) (for_declared (is_let kind) (declared_of kind ds) outer scope go))
 
--- 14.7.5.5: the iterated expression stands where the name isn't initialised
+-- ForIn/OfHeadEvaluation (14.7.5.6): the iterated expression stands where the name isn't initialised
 abbrev pub for_of : ℕ → Declaration → Meaning → Part → Calls → ℕ → Scope → Place → Outcome
 for_of site name items body calls k scope st =
     open_cell name.site name.name name.is_mutable None scope st (λ inner st.

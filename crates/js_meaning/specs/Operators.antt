@@ -159,7 +159,7 @@ is_join _ x y = false
 
 -- ---- the table of operators before a value (13.5)
 
--- 13.5.3, table 41
+-- 13.5.3, The typeof Operator
 abbrev pub type_of : Value → List Object → Text
 type_of undefined objects = codes "undefined"
 type_of null objects = codes "object"
