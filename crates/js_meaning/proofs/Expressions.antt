@@ -1,10 +1,8 @@
 -- Examples of expressions.
-use Rattle.std.proofs.Common.{◌≡◌, pos, true, false, List, [], ◌∷◌, codes, Some, None, refl}
+use Rattle.std.proofs.Common.{◌≡◌, true, false, List, [], ◌∷◌, codes, Some, None, refl}
 use Rattle.std.specs.Fmt.{digits}
-use Rattle.path_core.specs.declared.path.InputValue.TheVariants as input
 use Rattle.path_core.specs.declared.path.End.TheVariants.{Done}
 use Rattle.js_ast.specs.declared.operators.BinaryOp.TheVariants as op
-use Rattle.js_ast.specs.declared.operators.UnaryOp.TheVariants as un
 use Rattle.js_ast.specs.declared.operators.StepOp.TheVariants.{Increment, Decrement}
 use Rattle.js_ast.specs.declared.operators.LogicalOp.TheVariants as logic
 use Rattle.js_ast.specs.declared.operators.DeclarationKind.TheVariants.{Let}
@@ -15,11 +13,10 @@ use Rattle.js_meaning.specs.Builtins.{call_builtin, construct}
 use Rattle.js_meaning.specs.Objects.{get_row, bracket_row, set_row}
 use Rattle.js_meaning.specs.Operators.{test_row, logical_row, binary_row, unary_row, step_row}
 use Rattle.js_meaning.specs.Names.{open_cell, init_name, find_name, read_name, put_name}
-use Rattle.js_meaning.proofs.Known.{Known, named, leaf, array, unary, conditional, link, binary, logical, valued, short, object, dot, get, call_, call, to_name, to_property, step, assign}
+use Rattle.js_meaning.proofs.Known.{named, leaf, conditional, link, binary, logical, valued, short, object, dot, get, call_, call, to_name, to_property, step, assign}
 use Rattle.js_meaning.proofs.KnownStatements.{KnownStmt, stmt_trees, known_block, body_known, function_, arrow_block, still, braces, express, return_, declare_}
 use Rattle.js_meaning.proofs.KnownForms.{when, if_}
-use Rattle.js_meaning.proofs.Runs.{whole, branched, goes, uses, runs, path_is, steps_are}
-use Rattle.js_ast.specs.declared.expression.Expr.{Expr}
+use Rattle.js_meaning.proofs.Runs.{branched, goes, uses, runs, path_is, steps_are}
 use Rattle.js_ast.specs.declared.statement.Stmt.{Stmt}
 use Rattle.js_meaning.specs.Values.{statements}
 use Rattle.js_meaning.specs.Meaning.{body_of}
@@ -54,136 +51,6 @@ coalesce_script = (express 0 (logical (leaf (Expr-F.Null 0)) (link 5 logic.Coale
 coalesce : goes 10 [] [] coalesce_script ≡ ((branched 5 1 ∷ branched 10 0 ∷ []), Done)
 unfolding count turn new_object call_builtin construct get_row bracket_row set_row test_row logical_row binary_row unary_row step_row open_cell init_name find_name read_name put_name digits
 coalesce = path_is 10 [] [] coalesce_script refl
-
--- if ((n ? 5 : 6) === 6) {}
-abbrev chosen_value_script : List KnownStmt
-chosen_value_script = (if_ (when 0 (binary (conditional 5 7 (leaf (Expr-F.Name (named 5 (codes "n")))) (leaf
-    (Expr-F.Number 9 5)) (leaf (Expr-F.Number 13 6))) (link 16 op.Equal (leaf (Expr-F.Number 20 6)) ∷ [])) (braces 23
-    []) ∷ []) ∷ [])
-
-chosen_value : goes 10 (whole (codes "n") (pos 0) (pos 3) ∷ []) (input.Int (pos 0) ∷ []) chosen_value_script ≡
-    ((branched 7 0 ∷ branched 0 1 ∷ []), Done)
-unfolding count turn new_object call_builtin construct get_row bracket_row set_row test_row logical_row binary_row unary_row step_row open_cell init_name find_name read_name put_name digits
-chosen_value = path_is 10 (whole (codes "n") (pos 0) (pos 3) ∷ []) (input.Int (pos 0) ∷ []) chosen_value_script refl
-
--- if (typeof null === "object") {} if (typeof (() => 1) === "function") {} if (typeof NaN === "number") {}
-abbrev types_value_1 : Known
-types_value_1 = leaf (Expr-F.Number 51 1)
-
-abbrev types_script : Expr → List KnownStmt
-types_script t1 = (if_ (when 0 (binary (unary 4 un.TypeOf (leaf (Expr-F.Null 11))) (link 16 op.Equal (leaf
-    (Expr-F.Text 20 (codes "object"))) ∷ [])) (braces 30 []) ∷ []) ∷ if_ (when 33 (binary (unary 37 un.TypeOf (leaf
-    (Expr-F.Arrow 45 [] t1))) (link 54 op.Equal (leaf (Expr-F.Text 58 (codes "function"))) ∷ [])) (braces 70 []) ∷ [])
-    ∷ if_ (when 73 (binary (unary 77 un.TypeOf (leaf (Expr-F.Name (named 84 (codes "NaN"))))) (link 88 op.Equal (leaf
-    (Expr-F.Text 92 (codes "number"))) ∷ [])) (braces 102 []) ∷ []) ∷ [])
-
-types : goes 10 [] [] (types_script types_value_1.tree) ≡ ((branched 0 1 ∷ branched 33 1 ∷ branched 73 1 ∷ []), Done)
-unfolding count turn new_object call_builtin construct get_row bracket_row set_row test_row logical_row binary_row unary_row step_row open_cell init_name find_name read_name put_name digits
-types = path_is 10 [] [] (types_script types_value_1.tree) refl
-
--- if (-7 % 3 === -1) {} if (7 % -3 === 1) {} if (7 % 0 === 7 % 0) {}
-abbrev remainders_script : List KnownStmt
-remainders_script = (if_ (when 0 (binary (binary (unary 4 un.Minus (leaf (Expr-F.Number 5 7))) (link 7 op.Remainder
-    (leaf (Expr-F.Number 9 3)) ∷ [])) (link 11 op.Equal (unary 15 un.Minus (leaf (Expr-F.Number 16 1))) ∷ [])) (braces
-    19 []) ∷ []) ∷ if_ (when 22 (binary (binary (leaf (Expr-F.Number 26 7)) (link 28 op.Remainder (unary 30 un.Minus
-    (leaf (Expr-F.Number 31 3))) ∷ [])) (link 33 op.Equal (leaf (Expr-F.Number 37 1)) ∷ [])) (braces 40 []) ∷ []) ∷
-    if_ (when 43 (binary (binary (leaf (Expr-F.Number 47 7)) (link 49 op.Remainder (leaf (Expr-F.Number 51 0)) ∷ []))
-    (link 53 op.Equal (binary (leaf (Expr-F.Number 57 7)) (link 59 op.Remainder (leaf (Expr-F.Number 61 0)) ∷ [])) ∷
-    [])) (braces 64 []) ∷ []) ∷ [])
-
-remainders : goes 10 [] [] remainders_script ≡ ((branched 0 1 ∷ branched 22 1 ∷ branched 43 0 ∷ []), Done)
-unfolding count turn new_object call_builtin construct get_row bracket_row set_row test_row logical_row binary_row unary_row step_row open_cell init_name find_name read_name put_name digits
-remainders = path_is 10 [] [] remainders_script refl
-
--- if (-6 / 3 === -2) {} if (NaN / 0 === 1) {}
-abbrev quotients_script : List KnownStmt
-quotients_script = (if_ (when 0 (binary (binary (unary 4 un.Minus (leaf (Expr-F.Number 5 6))) (link 7 op.Divide (leaf
-    (Expr-F.Number 9 3)) ∷ [])) (link 11 op.Equal (unary 15 un.Minus (leaf (Expr-F.Number 16 2))) ∷ [])) (braces 19
-    []) ∷ []) ∷ if_ (when 22 (binary (binary (leaf (Expr-F.Name (named 26 (codes "NaN")))) (link 30 op.Divide (leaf
-    (Expr-F.Number 32 0)) ∷ [])) (link 34 op.Equal (leaf (Expr-F.Number 38 1)) ∷ [])) (braces 41 []) ∷ []) ∷ [])
-
-quotients : goes 10 [] [] quotients_script ≡ ((branched 0 1 ∷ branched 22 0 ∷ []), Done)
-unfolding count turn new_object call_builtin construct get_row bracket_row set_row test_row logical_row binary_row unary_row step_row open_cell init_name find_name read_name put_name digits
-quotients = path_is 10 [] [] quotients_script refl
-
--- if (-4 % 2 === 0) {} if (0 * -5 === 0) {} if (-0 === 0) {} if (0 / -5 === 0) {}
-abbrev zeros_script : List KnownStmt
-zeros_script = (if_ (when 0 (binary (binary (unary 4 un.Minus (leaf (Expr-F.Number 5 4))) (link 7 op.Remainder (leaf
-    (Expr-F.Number 9 2)) ∷ [])) (link 11 op.Equal (leaf (Expr-F.Number 15 0)) ∷ [])) (braces 18 []) ∷ []) ∷ if_ (when
-    21 (binary (binary (leaf (Expr-F.Number 25 0)) (link 27 op.Multiply (unary 29 un.Minus (leaf (Expr-F.Number 30
-    5))) ∷ [])) (link 32 op.Equal (leaf (Expr-F.Number 36 0)) ∷ [])) (braces 39 []) ∷ []) ∷ if_ (when 42 (binary
-    (unary 46 un.Minus (leaf (Expr-F.Number 47 0))) (link 49 op.Equal (leaf (Expr-F.Number 53 0)) ∷ [])) (braces 56
-    []) ∷ []) ∷ if_ (when 59 (binary (binary (leaf (Expr-F.Number 63 0)) (link 65 op.Divide (unary 67 un.Minus (leaf
-    (Expr-F.Number 68 5))) ∷ [])) (link 70 op.Equal (leaf (Expr-F.Number 74 0)) ∷ [])) (braces 77 []) ∷ []) ∷ [])
-
-zeros : goes 10 [] [] zeros_script ≡ ((branched 0 1 ∷ branched 21 1 ∷ branched 42 1 ∷ branched 59 1 ∷ []), Done)
-unfolding count turn new_object call_builtin construct get_row bracket_row set_row test_row logical_row binary_row unary_row step_row open_cell init_name find_name read_name put_name digits
-zeros = path_is 10 [] [] zeros_script refl
-
--- if ((7 & -4) === 4) {} if ((5 ^ -1) === -6) {} if ((NaN | 3) === 3) {} if (~5 === -6) {}
-abbrev bits_script : List KnownStmt
-bits_script = (if_ (when 0 (binary (binary (leaf (Expr-F.Number 5 7)) (link 7 op.BitAnd (unary 9 un.Minus (leaf
-    (Expr-F.Number 10 4))) ∷ [])) (link 13 op.Equal (leaf (Expr-F.Number 17 4)) ∷ [])) (braces 20 []) ∷ []) ∷ if_
-    (when 23 (binary (binary (leaf (Expr-F.Number 28 5)) (link 30 op.BitXor (unary 32 un.Minus (leaf (Expr-F.Number 33
-    1))) ∷ [])) (link 36 op.Equal (unary 40 un.Minus (leaf (Expr-F.Number 41 6))) ∷ [])) (braces 44 []) ∷ []) ∷ if_
-    (when 47 (binary (binary (leaf (Expr-F.Name (named 52 (codes "NaN")))) (link 56 op.BitOr (leaf (Expr-F.Number 58
-    3)) ∷ [])) (link 61 op.Equal (leaf (Expr-F.Number 65 3)) ∷ [])) (braces 68 []) ∷ []) ∷ if_ (when 71 (binary (unary
-    75 un.Complement (leaf (Expr-F.Number 76 5))) (link 78 op.Equal (unary 82 un.Minus (leaf (Expr-F.Number 83 6))) ∷
-    [])) (braces 86 []) ∷ []) ∷ [])
-
-bits : goes 10 [] [] bits_script ≡ ((branched 0 1 ∷ branched 23 1 ∷ branched 47 1 ∷ branched 71 1 ∷ []), Done)
-unfolding count turn new_object call_builtin construct get_row bracket_row set_row test_row logical_row binary_row unary_row step_row open_cell init_name find_name read_name put_name digits
-bits = path_is 10 [] [] bits_script refl
-
--- if (1 << 33 === 2) {} if (1 << 31 === -2147483648) {} if (-5 >> 1 === -3) {} if (-1 >>> 28 === 15) {}
-abbrev shifts_script : List KnownStmt
-shifts_script = (if_ (when 0 (binary (binary (leaf (Expr-F.Number 4 1)) (link 6 op.ShiftLeft (leaf (Expr-F.Number 9
-    33)) ∷ [])) (link 12 op.Equal (leaf (Expr-F.Number 16 2)) ∷ [])) (braces 19 []) ∷ []) ∷ if_ (when 22 (binary
-    (binary (leaf (Expr-F.Number 26 1)) (link 28 op.ShiftLeft (leaf (Expr-F.Number 31 31)) ∷ [])) (link 34 op.Equal
-    (unary 38 un.Minus (leaf (Expr-F.Number 39 2147483648))) ∷ [])) (braces 51 []) ∷ []) ∷ if_ (when 54 (binary
-    (binary (unary 58 un.Minus (leaf (Expr-F.Number 59 5))) (link 61 op.ShiftRight (leaf (Expr-F.Number 64 1)) ∷ []))
-    (link 66 op.Equal (unary 70 un.Minus (leaf (Expr-F.Number 71 3))) ∷ [])) (braces 74 []) ∷ []) ∷ if_ (when 77
-    (binary (binary (unary 81 un.Minus (leaf (Expr-F.Number 82 1))) (link 84 op.ShiftRightZero (leaf (Expr-F.Number 88
-    28)) ∷ [])) (link 91 op.Equal (leaf (Expr-F.Number 95 15)) ∷ [])) (braces 99 []) ∷ []) ∷ [])
-
-shifts : goes 10 [] [] shifts_script ≡ ((branched 0 1 ∷ branched 22 1 ∷ branched 54 1 ∷ branched 77 1 ∷ []), Done)
-unfolding count turn new_object call_builtin construct get_row bracket_row set_row test_row logical_row binary_row unary_row step_row open_cell init_name find_name read_name put_name digits
-shifts = path_is 10 [] [] shifts_script refl
-
--- if ("ab" < "b") {} if ("a" >= "ab") {} if (NaN <= NaN) {} if (null <= 0) {}
-abbrev orders_script : List KnownStmt
-orders_script = (if_ (when 0 (binary (leaf (Expr-F.Text 4 (codes "ab"))) (link 9 op.Less (leaf (Expr-F.Text 11 (codes
-    "b"))) ∷ [])) (braces 16 []) ∷ []) ∷ if_ (when 19 (binary (leaf (Expr-F.Text 23 (codes "a"))) (link 27
-    op.GreaterEqual (leaf (Expr-F.Text 30 (codes "ab"))) ∷ [])) (braces 36 []) ∷ []) ∷ if_ (when 39 (binary (leaf
-    (Expr-F.Name (named 43 (codes "NaN")))) (link 47 op.LessEqual (leaf (Expr-F.Name (named 50 (codes "NaN")))) ∷ []))
-    (braces 55 []) ∷ []) ∷ if_ (when 58 (binary (leaf (Expr-F.Null 62)) (link 67 op.LessEqual (leaf (Expr-F.Number 70
-    0)) ∷ [])) (braces 73 []) ∷ []) ∷ [])
-
-orders : goes 10 [] [] orders_script ≡ ((branched 0 1 ∷ branched 19 0 ∷ branched 39 0 ∷ branched 58 1 ∷ []), Done)
-unfolding count turn new_object call_builtin construct get_row bracket_row set_row test_row logical_row binary_row unary_row step_row open_cell init_name find_name read_name put_name digits
-orders = path_is 10 [] [] orders_script refl
-
--- if (NaN === NaN) {} if (null === undefined) {} if ("a" === "a") {} if ([] !== []) {}
-abbrev equals_script : List KnownStmt
-equals_script = (if_ (when 0 (binary (leaf (Expr-F.Name (named 4 (codes "NaN")))) (link 8 op.Equal (leaf (Expr-F.Name
-    (named 12 (codes "NaN")))) ∷ [])) (braces 17 []) ∷ []) ∷ if_ (when 20 (binary (leaf (Expr-F.Null 24)) (link 29
-    op.Equal (leaf (Expr-F.Name (named 33 (codes "undefined")))) ∷ [])) (braces 44 []) ∷ []) ∷ if_ (when 47 (binary
-    (leaf (Expr-F.Text 51 (codes "a"))) (link 55 op.Equal (leaf (Expr-F.Text 59 (codes "a"))) ∷ [])) (braces 64 []) ∷
-    []) ∷ if_ (when 67 (binary (array 71 []) (link 74 op.NotEqual (array 78 []) ∷ [])) (braces 82 []) ∷ []) ∷ [])
-
-equals : goes 10 [] [] equals_script ≡ ((branched 0 0 ∷ branched 20 0 ∷ branched 47 1 ∷ branched 67 1 ∷ []), Done)
-unfolding count turn new_object call_builtin construct get_row bracket_row set_row test_row logical_row binary_row unary_row step_row open_cell init_name find_name read_name put_name digits
-equals = path_is 10 [] [] equals_script refl
-
--- if ("a" + -12 + null + true === "a-12nulltrue") {}
-abbrev texts_script : List KnownStmt
-texts_script = (if_ (when 0 (binary (binary (leaf (Expr-F.Text 4 (codes "a"))) (link 8 op.Add (unary 10 un.Minus (leaf
-    (Expr-F.Number 11 12))) ∷ link 14 op.Add (leaf (Expr-F.Null 16)) ∷ link 21 op.Add (leaf (Expr-F.True 23)) ∷ []))
-    (link 28 op.Equal (leaf (Expr-F.Text 32 (codes "a-12nulltrue"))) ∷ [])) (braces 48 []) ∷ []) ∷ [])
-
-texts : goes 10 [] [] texts_script ≡ ((branched 0 1 ∷ []), Done)
-unfolding count turn new_object call_builtin construct get_row bracket_row set_row test_row logical_row binary_row unary_row step_row open_cell init_name find_name read_name put_name digits
-texts = path_is 10 [] [] texts_script refl
 
 -- let x = 1; if (x++ === 1) {} if (x === 2) {} if (--x === 1) {}
 abbrev stepped_behind_script : List KnownStmt
@@ -257,16 +124,6 @@ property_made = path_is 10 [] [] property_made_script refl
 property_made_steps : uses 10 [] [] property_made_script ≡ 13
 unfolding count turn new_object call_builtin construct get_row bracket_row set_row test_row logical_row binary_row unary_row step_row open_cell init_name find_name read_name put_name digits
 property_made_steps = steps_are 10 [] [] property_made_script refl
-
--- if ([1, 2].length === "ab".length) {}
-abbrev array_length_script : List KnownStmt
-array_length_script = (if_ (when 0 (binary (call (array 4 (leaf (Expr-F.Number 5 1) ∷ leaf (Expr-F.Number 8 2) ∷ []))
-    (get (dot 10 (codes "length")) ∷ [])) (link 18 op.Equal (call (leaf (Expr-F.Text 22 (codes "ab"))) (get (dot 26
-    (codes "length")) ∷ [])) ∷ [])) (braces 35 []) ∷ []) ∷ [])
-
-array_length : goes 10 [] [] array_length_script ≡ ((branched 0 1 ∷ []), Done)
-unfolding count turn new_object call_builtin construct get_row bracket_row set_row test_row logical_row binary_row unary_row step_row open_cell init_name find_name read_name put_name digits
-array_length = path_is 10 [] [] array_length_script refl
 
 -- let o = { m: function () { return this; } }; let r = o.m(); if (r === o) {}
 abbrev this_of_method_body_1 : List KnownStmt
@@ -484,3 +341,50 @@ no_this_of_or : goes 1 [] [] (no_this_of_or_script (stmt_trees no_this_of_or_bod
 )
 no_this_of_or = path_is 1 [] [] (no_this_of_or_script (stmt_trees no_this_of_or_body_1)) (no_this_of_or_run
     (stmt_trees no_this_of_or_body_1) (body_known no_this_of_or_body_1))
+
+-- let x = 7; x -= 2; x *= 6; x /= 5; x %= 4; if (x === 2) {}
+abbrev compounds_script : List KnownStmt
+compounds_script = (declare_ 0 Let ((named 4 (codes "x"), (Some (leaf (Expr-F.Number 8 7)))) ∷ []) ∷ express 11
+    (assign 11 13 (Some op.Subtract) (to_name (named 11 (codes "x"))) (leaf (Expr-F.Number 16 2))) ∷ express 19
+    (assign 19 21 (Some op.Multiply) (to_name (named 19 (codes "x"))) (leaf (Expr-F.Number 24 6))) ∷ express 27
+    (assign 27 29 (Some op.Divide) (to_name (named 27 (codes "x"))) (leaf (Expr-F.Number 32 5))) ∷ express 35 (assign
+    35 37 (Some op.Remainder) (to_name (named 35 (codes "x"))) (leaf (Expr-F.Number 40 4))) ∷ if_ (when 43 (binary
+    (leaf (Expr-F.Name (named 47 (codes "x")))) (link 49 op.Equal (leaf (Expr-F.Number 53 2)) ∷ [])) (braces 56 []) ∷
+    []) ∷ [])
+
+compounds : goes 10 [] [] compounds_script ≡ ((branched 43 1 ∷ []), Done)
+unfolding count turn new_object call_builtin construct get_row bracket_row set_row test_row logical_row binary_row unary_row step_row open_cell init_name find_name read_name put_name digits
+compounds = path_is 10 [] [] compounds_script refl
+
+compounds_steps : uses 10 [] [] compounds_script ≡ 23
+unfolding count turn new_object call_builtin construct get_row bracket_row set_row test_row logical_row binary_row unary_row step_row open_cell init_name find_name read_name put_name digits
+compounds_steps = steps_are 10 [] [] compounds_script refl
+
+-- let x = 5; x <<= 3; x >>= 1; x >>>= 1; x &= 6; x |= 9; x ^= 1; if (x === 10) {}
+abbrev more_compounds_script : List KnownStmt
+more_compounds_script = (declare_ 0 Let ((named 4 (codes "x"), (Some (leaf (Expr-F.Number 8 5)))) ∷ []) ∷ express 11
+    (assign 11 13 (Some op.ShiftLeft) (to_name (named 11 (codes "x"))) (leaf (Expr-F.Number 17 3))) ∷ express 20
+    (assign 20 22 (Some op.ShiftRight) (to_name (named 20 (codes "x"))) (leaf (Expr-F.Number 26 1))) ∷ express 29
+    (assign 29 31 (Some op.ShiftRightZero) (to_name (named 29 (codes "x"))) (leaf (Expr-F.Number 36 1))) ∷ express 39
+    (assign 39 41 (Some op.BitAnd) (to_name (named 39 (codes "x"))) (leaf (Expr-F.Number 44 6))) ∷ express 47 (assign
+    47 49 (Some op.BitOr) (to_name (named 47 (codes "x"))) (leaf (Expr-F.Number 52 9))) ∷ express 55 (assign 55 57
+    (Some op.BitXor) (to_name (named 55 (codes "x"))) (leaf (Expr-F.Number 60 1))) ∷ if_ (when 63 (binary (leaf
+    (Expr-F.Name (named 67 (codes "x")))) (link 69 op.Equal (leaf (Expr-F.Number 73 10)) ∷ [])) (braces 77 []) ∷ []) ∷
+    [])
+
+more_compounds : goes 10 [] [] more_compounds_script ≡ ((branched 63 1 ∷ []), Done)
+unfolding count turn new_object call_builtin construct get_row bracket_row set_row test_row logical_row binary_row unary_row step_row open_cell init_name find_name read_name put_name digits
+more_compounds = path_is 10 [] [] more_compounds_script refl
+
+-- let x; let y = x = 3; if (y === 3) {}
+abbrev assigned_value_script : List KnownStmt
+assigned_value_script = (declare_ 0 Let ((named 4 (codes "x"), None) ∷ []) ∷ declare_ 7 Let ((
+  named 11 (codes "y"),
+  (Some (assign 15 17 None (to_name (named 15 (codes "x"))) (leaf (Expr-F.Number 19 3)))),
+) ∷ []) ∷ if_ (when 22
+    (binary (leaf (Expr-F.Name (named 26 (codes "y")))) (link 28 op.Equal (leaf (Expr-F.Number 32 3)) ∷ [])) (braces
+    35 []) ∷ []) ∷ [])
+
+assigned_value : goes 10 [] [] assigned_value_script ≡ ((branched 22 1 ∷ []), Done)
+unfolding count turn new_object call_builtin construct get_row bracket_row set_row test_row logical_row binary_row unary_row step_row open_cell init_name find_name read_name put_name digits
+assigned_value = path_is 10 [] [] assigned_value_script refl

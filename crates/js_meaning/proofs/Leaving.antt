@@ -8,18 +8,17 @@ use Rattle.path_core.specs.declared.path.End.TheVariants.{Threw, Left}
 use Rattle.js_ast.specs.declared.operators.BinaryOp.TheVariants as op
 use Rattle.js_ast.specs.declared.operators.UnaryOp.TheVariants as un
 use Rattle.js_ast.specs.declared.operators.StepOp.TheVariants.{Increment}
-use Rattle.js_ast.specs.declared.operators.LogicalOp.TheVariants as logic
-use Rattle.js_ast.specs.declared.operators.DeclarationKind.TheVariants.{Let}
+use Rattle.js_ast.specs.declared.operators.DeclarationKind.TheVariants.{Let, Const}
 use Rattle.js_ast.specs.declared.expression.Expr.TheOpen.{Expr-F}
 use Rattle.js_meaning.specs.Running.{count, turn, new_object}
 use Rattle.js_meaning.specs.Builtins.{call_builtin, construct}
 use Rattle.js_meaning.specs.Objects.{get_row, bracket_row, set_row}
 use Rattle.js_meaning.specs.Operators.{test_row, logical_row, binary_row, unary_row, step_row}
 use Rattle.js_meaning.specs.Names.{open_cell, init_name, find_name, read_name, put_name}
-use Rattle.js_meaning.proofs.Known.{Known, named, leaf, array, new_, unary, conditional, link, binary, logical, object, dot, bracket, get, call_, call, to_name, to_property, step, assign}
+use Rattle.js_meaning.proofs.Known.{Known, named, leaf, array, new_, unary, link, binary, object, dot, bracket, get, call_, call, to_name, to_property, step, assign}
 use Rattle.js_meaning.proofs.KnownStatements.{KnownStmt, express, declare_}
 use Rattle.js_meaning.proofs.KnownForms.{try_}
-use Rattle.js_meaning.proofs.Runs.{branched, goes, uses, path_is, steps_are}
+use Rattle.js_meaning.proofs.Runs.{goes, uses, path_is, steps_are}
 use Rattle.js_ast.specs.declared.expression.Expr.{Expr}
 
 -- 9007199254740991 + 1;
@@ -220,77 +219,6 @@ method_written : goes 10 [] [] method_written_script ≡ ([], Left 13 why.Set 0 
 unfolding count turn new_object call_builtin construct get_row bracket_row set_row test_row logical_row binary_row unary_row step_row open_cell init_name find_name read_name put_name digits
 method_written = path_is 10 [] [] method_written_script refl
 
--- parseInt("1", 10);
-abbrev function_called_script : List KnownStmt
-function_called_script = (express 0 (call (leaf (Expr-F.Name (named 0 (codes "parseInt")))) (call_ 8 (leaf
-    (Expr-F.Text 9 (codes "1")) ∷ leaf (Expr-F.Number 14 10) ∷ []) ∷ [])) ∷ [])
-
-function_called : goes 10 [] [] function_called_script ≡ ([], Left 8 why.Builtin 0 0)
-unfolding count turn new_object call_builtin construct get_row bracket_row set_row test_row logical_row binary_row unary_row step_row open_cell init_name find_name read_name put_name digits
-function_called = path_is 10 [] [] function_called_script refl
-
--- parseInt;
-abbrev function_alone_script : List KnownStmt
-function_alone_script = (express 0 (leaf (Expr-F.Name (named 0 (codes "parseInt")))) ∷ [])
-
-function_alone : goes 10 [] [] function_alone_script ≡ ([], Left 0 why.Builtin 0 0)
-unfolding count turn new_object call_builtin construct get_row bracket_row set_row test_row logical_row binary_row unary_row step_row open_cell init_name find_name read_name put_name digits
-function_alone = path_is 10 [] [] function_alone_script refl
-
--- (parseInt)("1", 10);
-abbrev function_in_parentheses_script : List KnownStmt
-function_in_parentheses_script = (express 0 (call (leaf (Expr-F.Name (named 1 (codes "parseInt")))) (call_ 10 (leaf
-    (Expr-F.Text 11 (codes "1")) ∷ leaf (Expr-F.Number 16 10) ∷ []) ∷ [])) ∷ [])
-
-function_in_parentheses : goes 10 [] [] function_in_parentheses_script ≡ ([], Left 10 why.Builtin 0 0)
-unfolding count turn new_object call_builtin construct get_row bracket_row set_row test_row logical_row binary_row unary_row step_row open_cell init_name find_name read_name put_name digits
-function_in_parentheses = path_is 10 [] [] function_in_parentheses_script refl
-
--- Object.keys({});
-abbrev listed_called_script : List KnownStmt
-listed_called_script = (express 0 (call (leaf (Expr-F.Name (named 0 (codes "Object")))) (get (dot 6 (codes "keys")) ∷
-    call_ 11 (object 12 [] ∷ []) ∷ [])) ∷ [])
-
-listed_called : goes 10 [] [] listed_called_script ≡ ([], Left 11 why.Builtin 0 0)
-unfolding count turn new_object call_builtin construct get_row bracket_row set_row test_row logical_row binary_row unary_row step_row open_cell init_name find_name read_name put_name digits
-listed_called = path_is 10 [] [] listed_called_script refl
-
--- Object.keys;
-abbrev listed_alone_script : List KnownStmt
-listed_alone_script = (express 0 (call (leaf (Expr-F.Name (named 0 (codes "Object")))) (get (dot 6 (codes "keys")) ∷
-    [])) ∷ [])
-
-listed_alone : goes 10 [] [] listed_alone_script ≡ ([], Left 6 why.Builtin 0 0)
-unfolding count turn new_object call_builtin construct get_row bracket_row set_row test_row logical_row binary_row unary_row step_row open_cell init_name find_name read_name put_name digits
-listed_alone = path_is 10 [] [] listed_alone_script refl
-
--- Object.values(foo);
-abbrev not_listed_script : List KnownStmt
-not_listed_script = (express 0 (call (leaf (Expr-F.Name (named 0 (codes "Object")))) (get (dot 6 (codes "values")) ∷
-    call_ 13 (leaf (Expr-F.Name (named 14 (codes "foo"))) ∷ []) ∷ [])) ∷ [])
-
-not_listed : goes 10 [] [] not_listed_script ≡ ([], Left 6 why.Builtin 0 0)
-unfolding count turn new_object call_builtin construct get_row bracket_row set_row test_row logical_row binary_row unary_row step_row open_cell init_name find_name read_name put_name digits
-not_listed = path_is 10 [] [] not_listed_script refl
-
--- Object[1];
-abbrev bracket_of_builtin_script : List KnownStmt
-bracket_of_builtin_script = (express 0 (call (leaf (Expr-F.Name (named 0 (codes "Object")))) (get (bracket 6 true
-    (leaf (Expr-F.Number 7 1))) ∷ [])) ∷ [])
-
-bracket_of_builtin : goes 10 [] [] bracket_of_builtin_script ≡ ([], Left 6 why.Builtin 0 0)
-unfolding count turn new_object call_builtin construct get_row bracket_row set_row test_row logical_row binary_row unary_row step_row open_cell init_name find_name read_name put_name digits
-bracket_of_builtin = path_is 10 [] [] bracket_of_builtin_script refl
-
--- "a".charAt(0);
-abbrev method_called_script : List KnownStmt
-method_called_script = (express 0 (call (leaf (Expr-F.Text 0 (codes "a"))) (get (dot 3 (codes "charAt")) ∷ call_ 10
-    (leaf (Expr-F.Number 11 0) ∷ []) ∷ [])) ∷ [])
-
-method_called : goes 10 [] [] method_called_script ≡ ([], Left 10 why.Builtin 0 0)
-unfolding count turn new_object call_builtin construct get_row bracket_row set_row test_row logical_row binary_row unary_row step_row open_cell init_name find_name read_name put_name digits
-method_called = path_is 10 [] [] method_called_script refl
-
 -- "a".charAt(foo);
 abbrev method_after_arguments_script : List KnownStmt
 method_after_arguments_script = (express 0 (call (leaf (Expr-F.Text 0 (codes "a"))) (get (dot 3 (codes "charAt")) ∷
@@ -299,66 +227,6 @@ method_after_arguments_script = (express 0 (call (leaf (Expr-F.Text 0 (codes "a"
 method_after_arguments : goes 10 [] [] method_after_arguments_script ≡ ([], Left 11 why.Name 0 0)
 unfolding count turn new_object call_builtin construct get_row bracket_row set_row test_row logical_row binary_row unary_row step_row open_cell init_name find_name read_name put_name digits
 method_after_arguments = path_is 10 [] [] method_after_arguments_script refl
-
--- "a".charAt;
-abbrev method_alone_script : List KnownStmt
-method_alone_script = (express 0 (call (leaf (Expr-F.Text 0 (codes "a"))) (get (dot 3 (codes "charAt")) ∷ [])) ∷ [])
-
-method_alone : goes 10 [] [] method_alone_script ≡ ([], Left 3 why.Builtin 0 0)
-unfolding count turn new_object call_builtin construct get_row bracket_row set_row test_row logical_row binary_row unary_row step_row open_cell init_name find_name read_name put_name digits
-method_alone = path_is 10 [] [] method_alone_script refl
-
--- "a"["charAt"](0);
-abbrev method_in_brackets_script : List KnownStmt
-method_in_brackets_script = (express 0 (call (leaf (Expr-F.Text 0 (codes "a"))) (get (bracket 3 true (leaf
-    (Expr-F.Text 4 (codes "charAt")))) ∷ call_ 13 (leaf (Expr-F.Number 14 0) ∷ []) ∷ [])) ∷ [])
-
-method_in_brackets : goes 10 [] [] method_in_brackets_script ≡ ([], Left 13 why.Builtin 0 0)
-unfolding count turn new_object call_builtin construct get_row bracket_row set_row test_row logical_row binary_row unary_row step_row open_cell init_name find_name read_name put_name digits
-method_in_brackets = path_is 10 [] [] method_in_brackets_script refl
-
--- "a".charAt[foo];
-abbrev method_then_key_script : List KnownStmt
-method_then_key_script = (express 0 (call (leaf (Expr-F.Text 0 (codes "a"))) (get (dot 3 (codes "charAt")) ∷ get
-    (bracket 10 false (leaf (Expr-F.Name (named 11 (codes "foo"))))) ∷ [])) ∷ [])
-
-method_then_key : goes 10 [] [] method_then_key_script ≡ ([], Left 3 why.Builtin 0 0)
-unfolding count turn new_object call_builtin construct get_row bracket_row set_row test_row logical_row binary_row unary_row step_row open_cell init_name find_name read_name put_name digits
-method_then_key = path_is 10 [] [] method_then_key_script refl
-
--- undefined = 1;
-abbrev undefined_written_script : List KnownStmt
-undefined_written_script = (express 0 (assign 0 10 None (to_name (named 0 (codes "undefined"))) (leaf (Expr-F.Number
-    12 1))) ∷ [])
-
-undefined_written : goes 10 [] [] undefined_written_script ≡ ([], Left 0 why.Builtin 0 0)
-unfolding count turn new_object call_builtin construct get_row bracket_row set_row test_row logical_row binary_row unary_row step_row open_cell init_name find_name read_name put_name digits
-undefined_written = path_is 10 [] [] undefined_written_script refl
-
--- NaN++;
-abbrev nan_stepped_script : List KnownStmt
-nan_stepped_script = (express 0 (step 0 3 Increment false (to_name (named 0 (codes "NaN")))) ∷ [])
-
-nan_stepped : goes 10 [] [] nan_stepped_script ≡ ([], Left 0 why.Builtin 0 0)
-unfolding count turn new_object call_builtin construct get_row bracket_row set_row test_row logical_row binary_row unary_row step_row open_cell init_name find_name read_name put_name digits
-nan_stepped = path_is 10 [] [] nan_stepped_script refl
-
--- Object.x = foo;
-abbrev builtin_property_written_script : List KnownStmt
-builtin_property_written_script = (express 0 (assign 0 9 None (to_property (leaf (Expr-F.Name (named 0 (codes
-    "Object")))) (dot 6 (codes "x"))) (leaf (Expr-F.Name (named 11 (codes "foo"))))) ∷ [])
-
-builtin_property_written : goes 10 [] [] builtin_property_written_script ≡ ([], Left 6 why.Builtin 0 0)
-unfolding count turn new_object call_builtin construct get_row bracket_row set_row test_row logical_row binary_row unary_row step_row open_cell init_name find_name read_name put_name digits
-builtin_property_written = path_is 10 [] [] builtin_property_written_script refl
-
--- new Error("x");
-abbrev error_made_script : List KnownStmt
-error_made_script = (express 0 (new_ 0 (named 4 (codes "Error")) (leaf (Expr-F.Text 10 (codes "x")) ∷ [])) ∷ [])
-
-error_made : goes 10 [] [] error_made_script ≡ ([], Left 0 why.Builtin 0 0)
-unfolding count turn new_object call_builtin construct get_row bracket_row set_row test_row logical_row binary_row unary_row step_row open_cell init_name find_name read_name put_name digits
-error_made = path_is 10 [] [] error_made_script refl
 
 -- foo;
 abbrev unknown_script : List KnownStmt
@@ -393,24 +261,6 @@ unknown_set : goes 10 [] [] unknown_set_script ≡ ([], Left 0 why.Name 0 0)
 unfolding count turn new_object call_builtin construct get_row bracket_row set_row test_row logical_row binary_row unary_row step_row open_cell init_name find_name read_name put_name digits
 unknown_set = path_is 10 [] [] unknown_set_script refl
 
--- let F = 1; new F(foo);
-abbrev not_new_script : List KnownStmt
-not_new_script = (declare_ 0 Let ((named 4 (codes "F"), (Some (leaf (Expr-F.Number 8 1)))) ∷ []) ∷ express 11 (new_ 11
-    (named 15 (codes "F")) (leaf (Expr-F.Name (named 17 (codes "foo"))) ∷ [])) ∷ [])
-
-not_new : goes 10 [] [] not_new_script ≡ ([], Left 11 why.New 0 0)
-unfolding count turn new_object call_builtin construct get_row bracket_row set_row test_row logical_row binary_row unary_row step_row open_cell init_name find_name read_name put_name digits
-not_new = path_is 10 [] [] not_new_script refl
-
--- new Object(foo);
-abbrev builtin_not_new_script : List KnownStmt
-builtin_not_new_script = (express 0 (new_ 0 (named 4 (codes "Object")) (leaf (Expr-F.Name (named 11 (codes "foo"))) ∷
-    [])) ∷ [])
-
-builtin_not_new : goes 10 [] [] builtin_not_new_script ≡ ([], Left 0 why.New 0 0)
-unfolding count turn new_object call_builtin construct get_row bracket_row set_row test_row logical_row binary_row unary_row step_row open_cell init_name find_name read_name put_name digits
-builtin_not_new = path_is 10 [] [] builtin_not_new_script refl
-
 -- new foo();
 abbrev unknown_new_script : List KnownStmt
 unknown_new_script = (express 0 (new_ 0 (named 4 (codes "foo")) []) ∷ [])
@@ -428,45 +278,6 @@ early_new : goes 10 [] [] early_new_script ≡ ([], Threw 4 (thrown.Named fault.
 unfolding count turn new_object call_builtin construct get_row bracket_row set_row test_row logical_row binary_row unary_row step_row open_cell init_name find_name read_name put_name digits
 early_new = path_is 10 [] [] early_new_script refl
 
--- (1 ? "a".charAt : 0)(0);
-abbrev method_chosen_script : List KnownStmt
-method_chosen_script = (express 0 (call (conditional 1 3 (leaf (Expr-F.Number 1 1)) (call (leaf (Expr-F.Text 5 (codes
-    "a"))) (get (dot 8 (codes "charAt")) ∷ [])) (leaf (Expr-F.Number 18 0))) (call_ 20 (leaf (Expr-F.Number 21 0) ∷
-    []) ∷ [])) ∷ [])
-
-method_chosen : goes 10 [] [] method_chosen_script ≡ ((branched 3 1 ∷ []), Left 8 why.Builtin 0 0)
-unfolding count turn new_object call_builtin construct get_row bracket_row set_row test_row logical_row binary_row unary_row step_row open_cell init_name find_name read_name put_name digits
-method_chosen = path_is 10 [] [] method_chosen_script refl
-
--- (0 || "a".charAt)(0);
-abbrev method_behind_or_script : List KnownStmt
-method_behind_or_script = (express 0 (call (logical (leaf (Expr-F.Number 1 0)) (link 3 logic.Or (call (leaf
-    (Expr-F.Text 6 (codes "a"))) (get (dot 9 (codes "charAt")) ∷ [])) ∷ [])) (call_ 17 (leaf (Expr-F.Number 18 0) ∷
-    []) ∷ [])) ∷ [])
-
-method_behind_or : goes 10 [] [] method_behind_or_script ≡ ((branched 3 0 ∷ []), Left 9 why.Builtin 0 0)
-unfolding count turn new_object call_builtin construct get_row bracket_row set_row test_row logical_row binary_row unary_row step_row open_cell init_name find_name read_name put_name digits
-method_behind_or = path_is 10 [] [] method_behind_or_script refl
-
--- (0 || Object.keys)(0);
-abbrev listed_behind_or_script : List KnownStmt
-listed_behind_or_script = (express 0 (call (logical (leaf (Expr-F.Number 1 0)) (link 3 logic.Or (call (leaf
-    (Expr-F.Name (named 6 (codes "Object")))) (get (dot 12 (codes "keys")) ∷ [])) ∷ [])) (call_ 18 (leaf
-    (Expr-F.Number 19 0) ∷ []) ∷ [])) ∷ [])
-
-listed_behind_or : goes 10 [] [] listed_behind_or_script ≡ ((branched 3 0 ∷ []), Left 12 why.Builtin 0 0)
-unfolding count turn new_object call_builtin construct get_row bracket_row set_row test_row logical_row binary_row unary_row step_row open_cell init_name find_name read_name put_name digits
-listed_behind_or = path_is 10 [] [] listed_behind_or_script refl
-
--- (Object.keys)(0);
-abbrev listed_in_parentheses_script : List KnownStmt
-listed_in_parentheses_script = (express 0 (call (call (leaf (Expr-F.Name (named 1 (codes "Object")))) (get (dot 7
-    (codes "keys")) ∷ [])) (call_ 13 (leaf (Expr-F.Number 14 0) ∷ []) ∷ [])) ∷ [])
-
-listed_in_parentheses : goes 10 [] [] listed_in_parentheses_script ≡ ([], Left 13 why.Builtin 0 0)
-unfolding count turn new_object call_builtin construct get_row bracket_row set_row test_row logical_row binary_row unary_row step_row open_cell init_name find_name read_name put_name digits
-listed_in_parentheses = path_is 10 [] [] listed_in_parentheses_script refl
-
 -- undefined[foo];
 abbrev name_in_brackets_script : List KnownStmt
 name_in_brackets_script = (express 0 (call (leaf (Expr-F.Name (named 0 (codes "undefined")))) (get (bracket 9 false
@@ -475,3 +286,107 @@ name_in_brackets_script = (express 0 (call (leaf (Expr-F.Name (named 0 (codes "u
 name_in_brackets : goes 10 [] [] name_in_brackets_script ≡ ([], Left 10 why.Name 0 0)
 unfolding count turn new_object call_builtin construct get_row bracket_row set_row test_row logical_row binary_row unary_row step_row open_cell init_name find_name read_name put_name digits
 name_in_brackets = path_is 10 [] [] name_in_brackets_script refl
+
+-- ({}).charAt(0);
+abbrev method_of_plain_script : List KnownStmt
+method_of_plain_script = (express 0 (call (object 1 []) (get (dot 4 (codes "charAt")) ∷ call_ 11 (leaf (Expr-F.Number
+    12 0) ∷ []) ∷ [])) ∷ [])
+
+method_of_plain : goes 10 [] [] method_of_plain_script ≡ ([], Threw 11 (thrown.Named fault.TypeError))
+unfolding count turn new_object call_builtin construct get_row bracket_row set_row test_row logical_row binary_row unary_row step_row open_cell init_name find_name read_name put_name digits
+method_of_plain = path_is 10 [] [] method_of_plain_script refl
+
+-- let o = {}; o.valueOf(foo);
+abbrev inherited_after_arguments_script : List KnownStmt
+inherited_after_arguments_script = (declare_ 0 Let ((named 4 (codes "o"), (Some (object 8 []))) ∷ []) ∷ express 12
+    (call (leaf (Expr-F.Name (named 12 (codes "o")))) (get (dot 13 (codes "valueOf")) ∷ call_ 21 (leaf (Expr-F.Name
+    (named 22 (codes "foo"))) ∷ []) ∷ [])) ∷ [])
+
+inherited_after_arguments : goes 10 [] [] inherited_after_arguments_script ≡ ([], Left 13 why.Inherited 0 0)
+unfolding count turn new_object call_builtin construct get_row bracket_row set_row test_row logical_row binary_row unary_row step_row open_cell init_name find_name read_name put_name digits
+inherited_after_arguments = path_is 10 [] [] inherited_after_arguments_script refl
+
+-- let m = 9007199254740991; m += 1;
+abbrev compound_range_script : List KnownStmt
+compound_range_script = (declare_ 0 Let ((named 4 (codes "m"), (Some (leaf (Expr-F.Number 8 9007199254740991)))) ∷ [])
+    ∷ express 26 (assign 26 28 (Some op.Add) (to_name (named 26 (codes "m"))) (leaf (Expr-F.Number 31 1))) ∷ [])
+
+compound_range : goes 10 [] [] compound_range_script ≡ ([], Left 28 why.Range 0 0)
+unfolding count turn new_object call_builtin construct get_row bracket_row set_row test_row logical_row binary_row unary_row step_row open_cell init_name find_name read_name put_name digits
+compound_range = path_is 10 [] [] compound_range_script refl
+
+-- const m = 9007199254740991; m += 1;
+abbrev compound_of_const_script : List KnownStmt
+compound_of_const_script = (declare_ 0 Const ((named 6 (codes "m"), (Some (leaf (Expr-F.Number 10 9007199254740991))))
+    ∷ []) ∷ express 28 (assign 28 30 (Some op.Add) (to_name (named 28 (codes "m"))) (leaf (Expr-F.Number 33 1))) ∷ [])
+
+compound_of_const : goes 10 [] [] compound_of_const_script ≡ ([], Left 30 why.Range 0 0)
+unfolding count turn new_object call_builtin construct get_row bracket_row set_row test_row logical_row binary_row unary_row step_row open_cell init_name find_name read_name put_name digits
+compound_of_const = path_is 10 [] [] compound_of_const_script refl
+
+-- let s = "a"; s++;
+abbrev step_of_text_script : List KnownStmt
+step_of_text_script = (declare_ 0 Let ((named 4 (codes "s"), (Some (leaf (Expr-F.Text 8 (codes "a"))))) ∷ []) ∷
+    express 13 (step 13 14 Increment false (to_name (named 13 (codes "s")))) ∷ [])
+
+step_of_text : goes 10 [] [] step_of_text_script ≡ ([], Left 14 why.Convert 0 0)
+unfolding count turn new_object call_builtin construct get_row bracket_row set_row test_row logical_row binary_row unary_row step_row open_cell init_name find_name read_name put_name digits
+step_of_text = path_is 10 [] [] step_of_text_script refl
+
+-- foo.x = 1;
+abbrev property_of_unknown_script : List KnownStmt
+property_of_unknown_script = (express 0 (assign 0 6 None (to_property (leaf (Expr-F.Name (named 0 (codes "foo"))))
+    (dot 3 (codes "x"))) (leaf (Expr-F.Number 8 1))) ∷ [])
+
+property_of_unknown : goes 10 [] [] property_of_unknown_script ≡ ([], Left 0 why.Name 0 0)
+unfolding count turn new_object call_builtin construct get_row bracket_row set_row test_row logical_row binary_row unary_row step_row open_cell init_name find_name read_name put_name digits
+property_of_unknown = path_is 10 [] [] property_of_unknown_script refl
+
+-- try { null.x; } catch (e) { e.message = 1; }
+abbrev engine_message_written_script : List KnownStmt
+engine_message_written_script = (try_ 0 (express 6 (call (leaf (Expr-F.Null 6)) (get (dot 10 (codes "x")) ∷ [])) ∷ [])
+    (Some (
+      (Some (named 23 (codes "e"))),
+      (express 28 (assign 28 38 None (to_property (leaf (Expr-F.Name (named 28
+          (codes "e")))) (dot 29 (codes "message"))) (leaf (Expr-F.Number 40 1))) ∷ []),
+    )) None ∷ [])
+
+engine_message_written : goes 10 [] [] engine_message_written_script ≡ ([], Left 29 why.Set 0 0)
+unfolding count turn new_object call_builtin construct get_row bracket_row set_row test_row logical_row binary_row unary_row step_row open_cell init_name find_name read_name put_name digits
+engine_message_written = path_is 10 [] [] engine_message_written_script refl
+
+-- let f = () => 1; f.x = foo;
+abbrev function_written_value_1 : Known
+function_written_value_1 = leaf (Expr-F.Number 14 1)
+
+abbrev function_written_script : Expr → List KnownStmt
+function_written_script t1 = (declare_ 0 Let ((named 4 (codes "f"), (Some (leaf (Expr-F.Arrow 8 [] t1)))) ∷ []) ∷
+    express 17 (assign 17 21 None (to_property (leaf (Expr-F.Name (named 17 (codes "f")))) (dot 18 (codes "x"))) (leaf
+    (Expr-F.Name (named 23 (codes "foo"))))) ∷ [])
+
+function_written : goes 10 [] [] (function_written_script function_written_value_1.tree) ≡ ([], Left 23 why.Name 0 0)
+unfolding count turn new_object call_builtin construct get_row bracket_row set_row test_row logical_row binary_row unary_row step_row open_cell init_name find_name read_name put_name digits
+function_written = path_is 10 [] [] (function_written_script function_written_value_1.tree) refl
+
+-- let f = () => 1; f.x = 1;
+abbrev function_set_value_1 : Known
+function_set_value_1 = leaf (Expr-F.Number 14 1)
+
+abbrev function_set_script : Expr → List KnownStmt
+function_set_script t1 = (declare_ 0 Let ((named 4 (codes "f"), (Some (leaf (Expr-F.Arrow 8 [] t1)))) ∷ []) ∷ express
+    17 (assign 17 21 None (to_property (leaf (Expr-F.Name (named 17 (codes "f")))) (dot 18 (codes "x"))) (leaf
+    (Expr-F.Number 23 1))) ∷ [])
+
+function_set : goes 10 [] [] (function_set_script function_set_value_1.tree) ≡ ([], Left 18 why.Set 0 0)
+unfolding count turn new_object call_builtin construct get_row bracket_row set_row test_row logical_row binary_row unary_row step_row open_cell init_name find_name read_name put_name digits
+function_set = path_is 10 [] [] (function_set_script function_set_value_1.tree) refl
+
+-- let a = []; a.length = 0;
+abbrev array_length_written_script : List KnownStmt
+array_length_written_script = (declare_ 0 Let ((named 4 (codes "a"), (Some (array 8 []))) ∷ []) ∷ express 12 (assign
+    12 21 None (to_property (leaf (Expr-F.Name (named 12 (codes "a")))) (dot 13 (codes "length"))) (leaf
+    (Expr-F.Number 23 0))) ∷ [])
+
+array_length_written : goes 10 [] [] array_length_written_script ≡ ([], Left 13 why.Set 0 0)
+unfolding count turn new_object call_builtin construct get_row bracket_row set_row test_row logical_row binary_row unary_row step_row open_cell init_name find_name read_name put_name digits
+array_length_written = path_is 10 [] [] array_length_written_script refl

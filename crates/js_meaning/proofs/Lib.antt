@@ -5,11 +5,15 @@ pub mod KnownForms
 pub mod Runs
 pub mod Rows
 pub mod Statements
+pub mod Tries
 pub mod Throws
 pub mod Leaving
+pub mod UsesOfBuiltins
 pub mod Expressions
+pub mod OperatorValues
 pub mod Calls
 pub mod Bindings
 pub mod Limits
 pub mod RowsApart
 pub mod TextOrder
+pub mod Returns

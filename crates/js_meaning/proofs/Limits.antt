@@ -1,17 +1,18 @@
--- Examples of the limits, at each of them and one before it; of the order of own keys; and of answers for single execs.
-use Rattle.std.proofs.Common.{◌≡◌, ℕ, ◌+◌, length, Bool, List, [], ◌∷◌, ◌++◌, Option, Some, None, Ok, codes, refl}
+-- Examples of the limits, at each of them and one before it; of the order of own keys; of answers for single execs; and
+-- of conversions.
+use Rattle.std.proofs.Common.{◌≡◌, ℕ, ◌+◌, length, Bool, List, [], ◌∷◌, ◌++◌, Option, Some, None, Ok, codes, refl, pos, negsuc, true}
 use Rattle.std.specs.Fmt.{digits}
 use Rattle.path_core.specs.declared.path.Budget.TheVariants as budget
 use Rattle.path_core.specs.declared.path.Why.TheVariants as why
 use Rattle.path_core.specs.declared.path.End.TheVariants.{Cut}
 use Rattle.re_ast.specs.declared.patterns.Pattern.{Pattern}
 use Rattle.re_ast.specs.Execution.{Match, exec}
-use Rattle.js_meaning.specs.Values.{Text, Value, truth, text, Scope, Class, Object, Answers, Place}
+use Rattle.js_meaning.specs.Values.{Text, Value, truth, text, Scope, Class, Object, Answers, Place, undefined, nan, int, object}
 use Rattle.js_meaning.specs.Running.{passed, made, given, stops, gives, ends, Outcome, done, count, turn, new_object, play, leaving, stamped, next_exec}
 use Rattle.js_meaning.specs.Names.{open_cell}
 use Rattle.js_values.specs.OwnKeys.{own_keys}
 use Rattle.js_meaning.specs.Objects.{object_at, add_item, with_item, no_room}
-use Rattle.js_meaning.specs.Operators.{branch_event, branch_row, joined}
+use Rattle.js_meaning.specs.Operators.{text_row, place_row, branch_event, branch_row, joined}
 use Rattle.js_meaning.specs.Meaning.{text_literal}
 
 -- ---- nodes, events and turns
@@ -110,3 +111,33 @@ by_the_standard st p t from rest e z = rw (e, z) refl
 behind_the_list : (st : Place) (p : Pattern) (t : Text) (from : ℕ) → st.run.answers ≡ [] →
     next_exec st p t from ≡ exec p t from
 behind_the_list st p t from e = rw e refl
+
+-- ---- conversions
+
+text_of_number : text_row 3 (int (negsuc 41)) ≡ ([], gives (text (codes "-42")))
+unfolding text_row digits
+text_of_number = refl
+
+text_of_nan : text_row 3 nan ≡ ([], gives (text (codes "NaN")))
+unfolding text_row
+text_of_nan = refl
+
+text_of_object : text_row 3 (object 0) ≡ ([], ends (leaving 3 why.Convert))
+unfolding text_row
+text_of_object = refl
+
+place_of_undefined : place_row 3 (int (pos 7)) undefined ≡ ([], gives (int (pos 7)))
+unfolding place_row
+place_of_undefined = refl
+
+place_of_nan : place_row 3 (int (pos 7)) nan ≡ ([], gives (int (pos 0)))
+unfolding place_row
+place_of_nan = refl
+
+place_of_true : place_row 3 (int (pos 7)) (truth true) ≡ ([], gives (int (pos 1)))
+unfolding place_row
+place_of_true = refl
+
+place_of_text : place_row 3 (int (pos 7)) (text (codes "1")) ≡ ([], ends (leaving 3 why.Convert))
+unfolding place_row
+place_of_text = refl

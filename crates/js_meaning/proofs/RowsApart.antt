@@ -13,10 +13,10 @@ use Rattle.js_ast.specs.declared.operators.LogicalOp.TheVariants as logic
 use Rattle.js_values.specs.Numbers.{Number, fits, divides, divide, add, subtract, multiply, remainder, negate, less, at_most, to_int32, complement}
 use Rattle.js_meaning.specs.Values.{Text, Value, undefined, null, truth, int, nan, text, object, Object, Class, plain, array, matched, function, regexp, error}
 use Rattle.js_meaning.specs.Running.{Answer, gives, comes_to, raises, ends, Row, Reference, callee, intrinsic, static, method, guarded, giving, ending, leaving, text_limit, entry_limit}
-use Rattle.js_meaning.specs.Conversions.{number_value, to_number, to_string}
+use Rattle.js_meaning.specs.Conversions.{to_place, number_value, to_number, to_string}
 use Rattle.js_meaning.specs.Builtins.{is_method, is_static, among, array_methods, pattern_methods}
 use Rattle.js_meaning.specs.Objects.{get_row, get_from, other, own_or_other, own_or_undefined, message_row, error_row, property_row, bracket_row, bracket_method, bracket_static, static_key, look_up, object_at, inherited_names, holds, length_or, may_have_methods, Written, add_property, add_item, set_named, set_in, set_row, with_property, with_item, no_room, set_leaves, inherits}
-use Rattle.js_meaning.specs.Operators.{test_row, logical_row, converted, on_number, on_numbers, in_range, joined, joins, add_row, add_texts, add_numbers, subtract_row, multiply_row, divide_row, remainder_row, order_row, binary_row, unary_row, step_row, stepped, text_less}
+use Rattle.js_meaning.specs.Operators.{text_row, place_row, test_row, logical_row, converted, on_number, on_numbers, in_range, joined, joins, add_row, add_texts, add_numbers, subtract_row, multiply_row, divide_row, remainder_row, order_row, binary_row, unary_row, step_row, stepped, text_less}
 use Rattle.js_meaning.specs.Apart.{Sites, nowhere, only, Guarding, EndIn, RowApart, WrittenIn}
 
 -- ---- what rows are made of
@@ -64,6 +64,16 @@ unfolding logical_row test_row
 logical_apart logic.And site x = record { items = tt; end = tt; apart = tt }
 logical_apart logic.Or site x = record { items = tt; end = tt; apart = tt }
 logical_apart logic.Coalesce site x = record { items = tt; end = tt; apart = tt }
+
+-- ---- conversions
+
+pub text_apart : (site : ℕ) (x : Value) → RowApart (only site) (text_row site x)
+unfolding text_row
+text_apart site x = converted_apart site (to_string x) (λ t. giving (text t)) (λ t. giving_apart (text t))
+
+pub place_apart : (site : ℕ) (missing x : Value) → RowApart (only site) (place_row site missing x)
+unfolding place_row
+place_apart site missing x = converted_apart site (to_place missing x) giving (λ y. giving_apart y)
 
 -- ---- operators
 

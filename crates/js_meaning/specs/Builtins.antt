@@ -46,9 +46,14 @@ array_methods =
 abbrev pub pattern_methods : List Text
 pattern_methods = codes "exec" ∷ codes "test" ∷ []
 
--- a method of the table, of whichever kind of value
+-- what built-in names have as methods (22.1.2, 20.1.2, 23.1.2)
+abbrev pub static_methods : List Text
+static_methods = codes "fromCharCode" ∷ codes "keys" ∷ codes "isArray" ∷ []
+
+-- a method of the table, of whichever base
 abbrev pub is_method : Text → Bool
-is_method name = among name string_methods || (among name array_methods || among name pattern_methods)
+is_method name =
+    among name string_methods || (among name array_methods || (among name pattern_methods || among name static_methods))
 
 -- ---- the rows
 

@@ -1,5 +1,5 @@
 -- Conversions of values. Where there is none, the run leaves the profile (`convert`): this project's own rule.
-use Rattle.std.specs.Prelude.{ℕ, nat_lt, length, pos, Bool, true, false, not, Option, Some, None, codes}
+use Rattle.std.specs.Prelude.{ℕ, nat_lt, length, pos, Bool, true, false, not, Option, Some, None, codes, ℤ, option_map}
 use Rattle.std.specs.Fmt.{signed_decimal}
 use Rattle.js_values.specs.Numbers.{Number, is_zero}
 use Rattle.js_meaning.specs.Values.{Text, Value, undefined, null, truth, int, nan, text, object}
@@ -55,3 +55,12 @@ is_nullish _ = false
 abbrev pub is_text : Value → Bool
 is_text (text t) = true
 is_text _ = false
+
+abbrev pub nan_is_zero : Number → ℤ
+nan_is_zero None = pos 0
+nan_is_zero (Some n) = n
+
+-- the place that an argument stands for (7.1.5, ToIntegerOrInfinity); undefined is the stated default
+abbrev pub to_place : Value → Value → Option Value
+to_place missing undefined = Some missing
+to_place missing x = option_map (λ n. int (nan_is_zero n)) (to_number x)

@@ -120,7 +120,7 @@ abbrev pub with_item : Option Value → Place → (Place → Outcome) → (Value
 with_item None st gone go = gone st
 with_item (Some x) st gone go = go x st
 
--- 14.7.5.6: behind the turn a fresh binding with the item
+-- ForIn/OfBodyEvaluation (14.7.5.7): behind the turn a fresh binding with the item
 abbrev pub of_loop : ℕ → ℕ → Declaration → Part → ℕ → ℕ → Scope → Place → Outcome
 of_loop zero site name body o i scope st = spent site st
 of_loop (suc k) site name body o i scope st =
@@ -128,7 +128,7 @@ of_loop (suc k) site name body o i scope st =
     (λ x st. turn site st (λ st. open_cell name.site name.name name.is_mutable (Some x) scope st (λ inner st.
     bind (body k inner st) (after_body (of_loop k site name body o (i + 1) scope)))))
 
--- 14.7.5.5 and 7.4.3, GetIterator: an array, or a match result; a string leaves the profile, and nothing else is run over
+-- GetIterator (7.4.3): an array, or a match result; a string leaves the profile, and nothing else is run over
 abbrev pub of_start : ℕ → (ℕ → Place → Outcome) → Value → Place → Outcome
 of_start site go (object o) st =
     if is_array (object_at st.objects o).class then go o st else throw_error site kind.TypeError st

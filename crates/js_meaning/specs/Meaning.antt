@@ -119,6 +119,9 @@ all_arms (a ∷ arms) rest = a.1 (all_arms arms rest)
 abbrev pub part_of : Calls → Expr × Meaning → Part
 part_of calls e k scope st = e.1 calls k scope st
 
+abbrev pub perhaps : Calls → Option (Expr × Meaning) → Option Part
+perhaps calls e = option_map (part_of calls) e
+
 -- behind the declarations of the head: first fresh bindings of `let`, and none of `const`
 abbrev pub for_declared : Bool → List Declaration → Scope → Scope → (List Declaration → Scope → Place → Outcome) →
     Place → Completion → Outcome
@@ -135,7 +138,7 @@ for_head (head.Declare kind ds) calls k outer go st =
     open_names (declared_of kind ds) outer st (λ scope st.
     bind (declare meaning_of ds calls k scope st) (for_declared (is_let kind) (declared_of kind ds) outer scope go))
 
--- 14.7.5.5: the iterated expression stands where the name isn't initialised
+-- ForIn/OfHeadEvaluation (14.7.5.6): the iterated expression stands where the name isn't initialised
 abbrev pub for_of : ℕ → Declaration → Meaning → Part → Calls → ℕ → Scope → Place → Outcome
 for_of site name items body calls k scope st =
     open_cell name.site name.name name.is_mutable None scope st (λ inner st.
@@ -169,7 +172,7 @@ in_stmt (Stmt-F.While site test body) calls k scope st =
 in_stmt (Stmt-F.Do site body test_site test) calls k scope st =
     do_loop (suc k) site test_site (part_of calls test) (body.1 calls) scope st
 in_stmt (Stmt-F.For site h test update body) calls k outer st =
-    for_head h calls k outer (λ names. for_loop (suc k) site names (option_map (part_of calls) test) (option_map (part_of calls) update) (body.1 calls) outer) st
+    for_head h calls k outer (λ names. for_loop (suc k) site names (perhaps calls test) (perhaps calls update) (body.1 calls) outer) st
 in_stmt (Stmt-F.ForOf site kind name items body) calls k scope st =
     for_of site (declaration (is_let kind) name) items.1 (body.1 calls) calls k scope st
 in_stmt (Stmt-F.Break site) calls k scope st = done st breaks
@@ -198,10 +201,11 @@ stmts = map stmt
 
 -- ---- calls (10.2.1, [[Call]])
 
--- an activation has ended; the number stands where the code's does
+-- an end holds the number in 32 bits; it stays at or below the turns taken, so it doesn't come to the greatest one
 abbrev pub most_ended : ℕ
-most_ended = 18446744073709551615
+most_ended = 4294967295
 
+-- an activation of a function has ended
 abbrev pub end_activation : Place → Place
 end_activation st = record st { ended = min (st.ended + 1) most_ended }
 

@@ -16,7 +16,7 @@ use Rattle.js_ast.specs.declared.operators.LogicalOp.TheVariants as logic
 use Rattle.js_values.specs.Numbers.{Number, fits, add, subtract, multiply, divides, divide, remainder, negate, to_int32, bitwise, complement, shift_left, shift_right, shift_right_zero, less, at_most, equal}
 use Rattle.js_meaning.specs.Values.{Text, Value, undefined, null, truth, int, nan, text, object, Object}
 use Rattle.js_meaning.specs.Running.{Row, made, gives, guarded, giving, ending, text_limit}
-use Rattle.js_meaning.specs.Conversions.{to_boolean, number_value, bit, to_number, to_string, is_nullish, is_text}
+use Rattle.js_meaning.specs.Conversions.{to_boolean, number_value, bit, to_number, to_string, to_place, is_nullish, is_text}
 use Rattle.js_meaning.specs.Objects.{is_callable}
 
 -- ---- tests
@@ -56,6 +56,16 @@ on_number site go x = converted site (to_number x) go
 -- the left side first (13.15.3, ApplyStringOrNumericBinaryOperator)
 abbrev pub on_numbers : ℕ → (Number → Number → Row) → Value → Value → Row
 on_numbers site go x y = on_number site (λ m. on_number site (go m) y) x
+
+-- ---- conversions as rows
+
+-- the text of a value
+unfoldable pub text_row : ℕ → Value → Row
+text_row site x = converted site (to_string x) (λ t. giving (text t))
+
+-- the place of a value, with a stated default
+unfoldable pub place_row : ℕ → Value → Value → Row
+place_row site missing x = converted site (to_place missing x) giving
 
 -- ---- arithmetic
 
@@ -149,7 +159,7 @@ is_join _ x y = false
 
 -- ---- the table of operators before a value (13.5)
 
--- 13.5.3, table 41
+-- 13.5.3, The typeof Operator
 abbrev pub type_of : Value → List Object → Text
 type_of undefined objects = codes "undefined"
 type_of null objects = codes "object"

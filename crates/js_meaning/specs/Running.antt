@@ -20,8 +20,8 @@ pub data Item : Type 0 where
   made : Event → Item
 
 -- what a name, a property or a chain of suffixes has come to (6.2.5, the Reference Record): a value that was read, with the
--- `this` of a call of it; a built-in name, at its site; a listed property of a built-in name; a built-in method of a
--- value. The last three may only be called, or have a property read
+-- `this` of a call of it; a built-in name, at its site, which may be called or have a listed property read; such a property,
+-- at its own site; a built-in method of a value, at its site. The last two may only be called
 pub data Reference : Type 0 where
   callee : Value → Value → Reference
   intrinsic : ℕ → Text → Reference

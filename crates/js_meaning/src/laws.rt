@@ -10,13 +10,19 @@ ghost use Rattle.js_ast.specs.declared.operators.UnaryOp.{UnaryOp as SpecUnaryOp
 ghost use Rattle.js_meaning.specs.Values.{Text, Value, Object};
 ghost use Rattle.js_meaning.specs.Running.{Reference};
 ghost use Rattle.js_meaning.specs.Objects.{get_row, property_row, bracket_row, set_row, add_property, add_item};
-ghost use Rattle.js_meaning.specs.Operators.{test_row, logical_row, binary_row, unary_row, step_row, text_less};
+ghost use Rattle.js_meaning.specs.Operators.{text_row, place_row, test_row, logical_row, binary_row, unary_row, step_row, text_less};
 ghost use Rattle.js_meaning.specs.Apart.{RowApart, WrittenIn, nowhere, only};
 
 /// A test and the left side of `&&`, `||` and `??` pass no exit.
 pub fn tests_apart()
     ensures test { (site : ℕ) (x : Value) → RowApart nowhere (test_row site x) }
     ensures logical { (op : SpecLogicalOp) (site : ℕ) (x : Value) → RowApart nowhere (logical_row op site x) }
+{}
+
+/// The end of a conversion is at its site.
+pub fn conversions_apart()
+    ensures text { (site : ℕ) (x : Value) → RowApart (only site) (text_row site x) }
+    ensures place { (site : ℕ) (missing : Value) (x : Value) → RowApart (only site) (place_row site missing x) }
 {}
 
 /// The exits of an operator are at its mark.

@@ -4,4 +4,7 @@
 
 mod laws;
 
-pub use laws::{operators_apart, properties_apart, strings_ordered, tests_apart, writes_apart};
+pub use laws::{
+    conversions_apart, operators_apart, properties_apart, strings_ordered, tests_apart,
+    writes_apart,
+};

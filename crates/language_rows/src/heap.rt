@@ -22,13 +22,13 @@ const ORDERS: [(&str, &str); 8] = [
 
 /// Sets each key to the number of those before it.
 fn set_all(alloc: Global, heap: &mut Heap<u64>, id: u32, created: &str) -> Result<bool, NoMemory> {
-    let mut number = 0;
+    let mut number = 0u64;
     for key in created.split(',') {
         if heap.objects() <= id {
             return Ok(false);
         }
         heap.set(id, Units::from_text(alloc, key)?, number)?;
-        number += 1;
+        number = number.saturating_add(1u64);
     }
     Ok(true)
 }
