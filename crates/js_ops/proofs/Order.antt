@@ -5,27 +5,11 @@ use Rattle.std.proofs.lemmas.Bool.Decides.{nat_tests}
 use Rattle.js_units.specs.Order.{IsLess}
 use Rattle.js_meaning.specs.Operators.{text_less}
 
-less_step : (x y : ℕ) (b : Bool) → x ≡ y → b ≡ true → (nat_lt x y || ((x == y) && b)) ≡ true
-less_step x y b e h = grind (arith, nat_tests)
-
 more_step : (x y : ℕ) (b : Bool) → y ≡ x → b ≡ false → (nat_lt x y || ((x == y) && b)) ≡ false
 more_step x y b e h = grind (arith, nat_tests)
 
-below : (x y : ℕ) (b : Bool) → x < y → (nat_lt x y || ((x == y) && b)) ≡ true
-below x y b h = grind (arith, nat_tests)
-
 above : (x y : ℕ) (b : Bool) → y < x → (nat_lt x y || ((x == y) && b)) ≡ false
 above x y b h = grind (arith, nat_tests)
-
-pub less_text : (s t : List ℕ) → IsLess s t → text_less s t ≡ true
-less_text [] [] h = absurd h
-less_text [] (y ∷ t) h = refl
-less_text (x ∷ s) [] h = absurd h
-less_text (x ∷ s) (y ∷ t) h =
-    elim h [
-      | inl k ↦ below x y (text_less s t) k
-      | inr k ↦ less_step x y (text_less s t) k.0 (less_text s t k.1)
-    ]
 
 pub more_text : (s t : List ℕ) → IsLess t s → text_less s t ≡ false
 more_text [] [] h = absurd h

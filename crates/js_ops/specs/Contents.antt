@@ -7,9 +7,8 @@ use Rattle.js_meaning.specs.Apart.{Guarding}
 use Rattle.js_ast.specs.declared.operators.BinaryOp.{BinaryOp}
 use Rattle.js_ast.specs.declared.operators.BinaryOp.TheVariants as op
 use Rattle.js_values.specs.Numbers.{Number, is_safe, bitwise, shift_left, shift_right, shift_right_zero, less, at_most}
-use Rattle.js_meaning.specs.Values.{Value, int, truth, text}
-use Rattle.js_meaning.specs.Conversions.{to_string}
-use Rattle.js_meaning.specs.Operators.{add_numbers, subtract_row, multiply_row, divide_row, remainder_row, text_less, converted}
+use Rattle.js_meaning.specs.Values.{int, truth}
+use Rattle.js_meaning.specs.Operators.{add_numbers, subtract_row, multiply_row, divide_row, remainder_row, text_less}
 use Rattle.js_meaning.specs.Running.{Row, passed, gives, ends, leaving, giving, ending}
 use Rattle.term_table.specs.declared.term.TermId.{TermId}
 use Rattle.term_table.specs.declared.outcome.Outcome.{Outcome}
@@ -83,10 +82,6 @@ numbers_order _ = λ m n. false
 abbrev pub IsTold : Plain → Type 0
 IsTold (plain.Object o) = ⊥
 IsTold _ = Unit {0}
-
--- ToString (7.1.17)
-abbrev pub text_row : ℕ → Value → Row
-text_row site x = converted site (to_string x) (λ t. giving (text t))
 
 -- the guard that stopped a run is named, and what the kinds decide names none
 abbrev pub IsNamed : End → Option TermId → Type 0

@@ -4,12 +4,12 @@ ghost use Rattle.std.specs.Prelude.{◌≡◌, ℕ, List, true, IfOk};
 ghost use Rattle.js_ast.specs.declared.operators.UnaryOp.TheVariants.{TypeOf};
 ghost use Rattle.js_values.specs.Numbers as number;
 ghost use Rattle.js_meaning.specs.Conversions.{number_value};
-ghost use Rattle.js_meaning.specs.Operators.{unary_row, step_row, on_number, type_of};
+ghost use Rattle.js_meaning.specs.Operators.{unary_row, step_row, text_row, on_number, type_of};
 ghost use Rattle.js_meaning.specs.Running.{giving};
 ghost use Rattle.js_meaning.specs.Values.{Object, int, text};
 ghost use Rattle.term_table.specs.Fitting.{IsValue};
 ghost use Rattle.term_table.specs.Views.{plain_value};
-ghost use Rattle.js_ops.specs.Contents.{shown, IsRow, IsTold, text_row};
+ghost use Rattle.js_ops.specs.Contents.{shown, IsRow, IsTold};
 
 use crate::arithmetic::{add, subtract};
 use crate::conversions::{number_value, to_boolean, to_number, to_string};
@@ -126,6 +126,7 @@ pub fn step(op: StepOp, x: &Plain) -> Row
 }
 
 /// ToString as a row: a string, or the end of what isn't converted.
+#[tactic(auto, unfolding(js_meaning::specs::Operators::text_row))]
 pub fn text(alloc: Global, x: &Plain) -> Result<Row, NoMemory>
     ensures row { (site : ℕ) → IfOk result (λ row. shown site row ≡ text_row site (plain_value x.now)) }
     ensures whole { IfOk result (λ row. IsRow row) }

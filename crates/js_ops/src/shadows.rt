@@ -3,13 +3,13 @@
 ghost use Rattle.std.specs.Prelude.{◌≡◌, IfOk, List};
 ghost use Rattle.js_ast.specs.declared.operators.UnaryOp.TheVariants.{TypeOf};
 ghost use Rattle.js_meaning.specs.Conversions.{to_boolean};
-ghost use Rattle.js_meaning.specs.Operators.{binary_row, unary_row, step_row};
+ghost use Rattle.js_meaning.specs.Operators.{binary_row, unary_row, step_row, text_row};
 ghost use Rattle.js_meaning.specs.Values.{Object, truth};
 ghost use Rattle.term_table.specs.Fitting.{Fits, FitsOutcome};
 ghost use Rattle.term_table.specs.Growing.{Grown};
 ghost use Rattle.term_table.specs.Views.{View, Agrees, at};
 ghost use Rattle.term_table.specs.Walking.{Meets};
-ghost use Rattle.js_ops.specs.Contents.{IsTold, NamesGuard, text_row};
+ghost use Rattle.js_ops.specs.Contents.{IsTold, NamesGuard};
 
 use crate::answers::answered;
 use crate::{conversions, one_operand as contents, two_operands};

@@ -1,7 +1,7 @@
 use Rattle.std.proofs.Common.{◌∙◌, sym, ap}
 use Rattle.js_meaning.specs.Values.{Value}
 use Rattle.term_table.specs.Views.{at}
-use Rattle.js_ops.specs.Contents.{text_row}
+use Rattle.js_meaning.specs.Operators.{text_row}
 use Rattle.js_ops.proofs.Shown.{at_fit, meets_row}
 use Rattle.js_ops.proofs.shadows.to_text.Goals as goal
 
