@@ -2,10 +2,17 @@
 //! budget of steps on new clauses.
 #![tactic(auto)]
 
+mod cutting;
+mod finding;
 mod learning;
 mod propagating;
-mod scanning;
+mod scores;
+mod searching;
 mod solving;
+mod starting;
+mod taking;
+mod teaching;
 mod trail;
+mod watching;
 
 pub use solving::{Answer, solve};
