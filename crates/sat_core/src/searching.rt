@@ -65,7 +65,7 @@ fn learn(
         conflict,
     )?;
     scores.decay();
-    trail.cut(lesson.cut);
+    trail.cut(scores, lesson.cut);
     let head = trail.len();
     take_up(watches, trail, lesson.step.clause.as_slice())?;
     let Lesson { step, cut: _ } = lesson;
