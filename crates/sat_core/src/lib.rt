@@ -6,12 +6,15 @@ mod cutting;
 mod finding;
 mod learning;
 mod propagating;
+mod restarts;
 mod scores;
 mod searching;
+mod slots;
 mod solving;
 mod starting;
 mod taking;
 mod teaching;
+mod touched;
 mod trail;
 mod watching;
 

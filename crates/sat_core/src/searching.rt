@@ -1,23 +1,24 @@
 //! The search itself: to decide, to make units true, and to learn from each conflict.
 
-ghost use Rattle.std.specs.Prelude.{◌≡◌, ◌≤◌, ◌<◌, ◌+◌, ◌*◌, [], length, IfOk};
+ghost use Rattle.std.specs.Prelude.{ℤ, List, ◌≡◌, ◌≤◌, ◌<◌, ◌+◌, ◌*◌, [], length, IfOk};
 ghost use Rattle.cnf_core.specs.Derivations.{known_with, IsWithin};
 ghost use Rattle.sat_core.specs.Trails.{is_false, unassigned};
+ghost use Rattle.sat_core.specs.declared.watching.Watches.{Watches};
 ghost use Rattle.sat_core.specs.Rest.{IsConflict};
-ghost use Rattle.sat_core.specs.States.{Stable};
+ghost use Rattle.sat_core.specs.States.{Stable, GuardedTo};
 ghost use Rattle.sat_core.specs.Cuts.{IsDecision, NoDecision};
 ghost use Rattle.sat_core.specs.Starting.{Starting};
 ghost use Rattle.sat_core.specs.Endings.{IsEnding};
 ghost use Rattle.sat_core.specs.Searches.{Learns};
 
-use crate::cutting::{Lesson, last_decision};
+use crate::cutting::{Lesson, Resolvent, is_decision, last_decision};
 use crate::learning::refute;
 use crate::propagating::propagate;
 use crate::scores::Scores;
 use crate::starting::set_up;
 use crate::taking::take_up;
 use crate::teaching::teach;
-use crate::trail::{Entry, Trail};
+use crate::trail::Trail;
 use crate::watching::Watches;
 use cnf_core::{Cnf, ProofStep};
 use js_units::NoMemory;
@@ -35,41 +36,59 @@ pub enum Ending {
     Spent,
 }
 
-/// Learns a step from a conflict, jumps back to where its clause has a unit, and makes that true.
-/// Answers how many entries have been seen to.
+/// Takes all decisions back. Answers how many entries have then been seen to.
+fn restart(trail: &mut Trail, scores: &mut Scores, head: usize) -> usize
+    requires { head ≤ length trail.old.entries }
+    ensures kept { (known : List (List ℤ)) (watches : Watches) → Stable known watches trail.old → GuardedTo known watches trail.old head →
+        Stable known watches trail.new × GuardedTo known watches trail.new result }
+    ensures low { result ≤ length trail.new.entries }
+    ensures same { trail.new.variables ≡ trail.old.variables }
+{
+    let first = trail.first();
+    if !is_decision(trail.entries(), first) {
+        return head;
+    }
+    trail.cut(scores, first);
+    trail.len()
+}
+
+/// Learns a step from a conflict, jumps back to where its clause has a unit, makes that true, and now
+/// and then starts again from no decision. Answers how many entries have been seen to.
 fn learn(
     alloc: Global,
     cnf: &Cnf,
     watches: &mut Watches,
     trail: &mut Trail,
     scores: &mut Scores,
+    resolvent: &mut Resolvent,
     steps: &mut Items<ProofStep>,
     start: usize,
     conflict: u64,
 ) -> Result<usize, NoMemory>
+    requires long { length resolvent.old.marks ≡ cnf.now.variables }
     requires standing { Stable (known_with cnf.now steps.old) watches.old trail.old }
     requires same { trail.old.variables ≡ cnf.now.variables }
     requires conflict { IsConflict (known_with cnf.now steps.old) (is_false trail.old) conflict }
     requires within { start < length trail.old.entries }
     requires decision { IsDecision trail.old.entries start }
     requires last { NoDecision trail.old.entries (start + 1) (length trail.old.entries) }
-    ensures { IfOk result (Learns cnf.now steps.old steps.new watches.new trail.new) }
+    ensures learns { IfOk result (Learns cnf.now steps.old steps.new watches.new trail.new) }
+    ensures long { length resolvent.new.marks ≡ length resolvent.old.marks }
 {
+    let first = trail.first();
+    let known = steps.as_slice();
+    let entries = trail.entries();
     let lesson = teach(
-        alloc,
-        cnf,
-        steps.as_slice(),
-        scores,
-        trail.entries(),
-        start,
-        conflict,
+        alloc, cnf, known, resolvent, scores, entries, start, first, conflict,
     )?;
-    scores.decay();
     trail.cut(scores, lesson.cut);
     let head = trail.len();
     take_up(watches, trail, lesson.step.clause.as_slice())?;
     let Lesson { step, cut: _ } = lesson;
     steps.push(step)?;
+    if scores.decay() {
+        return Ok(restart(trail, scores, head));
+    }
     Ok(head)
 }
 
@@ -82,9 +101,11 @@ fn search(
     watches: &mut Watches,
     trail: &mut Trail,
     scores: &mut Scores,
+    resolvent: &mut Resolvent,
     steps: &mut Items<ProofStep>,
 ) -> Result<Ending, NoMemory>
     requires budget { 1 ≤ budget }
+    requires long { length resolvent.old.marks ≡ cnf.now.variables }
     requires start { Starting cnf.now.clauses watches.old trail.old }
     requires same { trail.old.variables ≡ cnf.now.variables }
     requires steps { steps.old ≡ [] }
@@ -99,7 +120,9 @@ fn search(
                     return Ok(Ending::Refuted);
                 }
                 Some(start) => {
-                    head = learn(alloc, cnf, watches, trail, scores, steps, start, conflict)?;
+                    head = learn(
+                        alloc, cnf, watches, trail, scores, resolvent, steps, start, conflict,
+                    )?;
                     if steps.len() as u64 == budget {
                         return Ok(Ending::Spent);
                     }
@@ -108,7 +131,7 @@ fn search(
             None => match trail.pick(scores) {
                 Some(lit) => {
                     head = trail.len();
-                    trail.push(Entry { lit, reason: None })?;
+                    trail.decide(lit)?;
                 }
                 None => return Ok(Ending::Total),
             },
@@ -124,9 +147,11 @@ fn start(
     watches: &mut Watches,
     trail: &mut Trail,
     scores: &mut Scores,
+    resolvent: &mut Resolvent,
     steps: &mut Items<ProofStep>,
 ) -> Result<Ending, NoMemory>
     requires budget { 1 ≤ budget }
+    requires long { length resolvent.old.marks ≡ cnf.now.variables }
     requires cnf { IsWithin cnf.now }
     requires trail { trail.old ≡ unassigned cnf.now.variables }
     requires pairs { watches.old.pairs ≡ [] }
@@ -139,7 +164,7 @@ fn start(
             steps.push(refute(alloc, trail.entries(), conflict)?)?;
             Ok(Ending::Refuted)
         }
-        None => search(alloc, cnf, budget, watches, trail, scores, steps),
+        None => search(alloc, cnf, budget, watches, trail, scores, resolvent, steps),
     }
 }
 
@@ -159,5 +184,15 @@ pub fn run(
 {
     let mut watches = Watches::new(alloc, cnf.variables)?;
     let mut scores = Scores::new(alloc, cnf.variables)?;
-    start(alloc, cnf, budget, &mut watches, trail, &mut scores, steps)
+    let mut resolvent = Resolvent::new(alloc, cnf.variables)?;
+    start(
+        alloc,
+        cnf,
+        budget,
+        &mut watches,
+        trail,
+        &mut scores,
+        &mut resolvent,
+        steps,
+    )
 }
