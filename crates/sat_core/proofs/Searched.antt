@@ -19,7 +19,7 @@ use Rattle.sat_core.specs.Trails.{Assigned, is_false, falsified, IsTrail, IsFree
 use Rattle.sat_core.specs.Rest.{Grows, IsConflict}
 use Rattle.sat_core.specs.Watching.{Guards, AreGuarded, AtDecisions}
 use Rattle.sat_core.specs.States.{Stable, GuardedTo, Stopped, Rested}
-use Rattle.sat_core.specs.Cuts.{front, IsDecision, NoDecision, Teaches}
+use Rattle.sat_core.specs.Cuts.{front, NoDecision, Teaches}
 use Rattle.sat_core.specs.Learning.{reasons}
 use Rattle.sat_core.specs.Taking.{TakesUp, IsFirstFree}
 use Rattle.sat_core.specs.Starting.{AreForced, Starting, Clashing}
@@ -32,8 +32,7 @@ use Rattle.sat_core.proofs.Counting.{few_steps}
 use Rattle.sat_core.proofs.Steps.{refuted}
 use Rattle.sat_core.proofs.Taught.{lesson_free, lesson_fresh, lesson_valid, lesson_within}
 use Rattle.sat_core.proofs.TakenUp.{taken_stable, taken_guarded}
-use Rattle.sat_core.proofs.Adding.{cut_standing, cut_guarded}
-use Rattle.sat_core.proofs.Settling.{take_all}
+use Rattle.sat_core.proofs.Adding.{cut_standing}
 
 map_push : (f : ProofStep → List ℤ) (ss : List ProofStep) (s : ProofStep) → map f (ss ++ s ∷ []) ≡ map f ss ++ f s ∷ []
 map_push f [] s = refl
@@ -79,11 +78,6 @@ module _ (cnf : Cnf) (steps : List ProofStep) (old : Watches) (a b : Assigned) (
           same = still ∙ (same ∙ kept);
           more = ap length push ∙ length_push steps lesson.step;
         }
-
-pub head_low : (clause : List ℤ) (first : ℤ) (rest : List ℤ) → clause ≡ first ∷ rest → (old new : Watches) (b d : Assigned) → TakesUp clause old new b d → (head : ℕ) → head ≡ length b.entries → head ≤ length d.entries
-head_low clause first rest is old new b d up head at =
-    let long : length d.entries ≡ length b.entries + 1 = ap length (up first rest is).entries ∙ length_push b.entries (record { lit = first; reason = Some (length old.pairs + 1) }) in
-    omega (arith, long, at)
 
 -- ---- the search
 pub started : (cnf : Cnf) (budget : ℕ) (steps : List ProofStep) (w : Watches) (a : Assigned) → steps ≡ [] → Starting cnf.clauses w a → a.variables ≡ cnf.variables → 1 ≤ budget → Searches cnf budget steps w a 0
@@ -196,18 +190,3 @@ clashed cnf budget steps more a es n s none some h read clause hints so =
     let known : cnf.clauses ≡ known_with cnf [] = sym (append-nil cnf.clauses) in
     refuted cnf budget [] more a n s (λ k step e. absurd (cc)) (All-nil (λ (x : ProofStep). All (Names cnf.variables) x.clause)) some
     (subst (λ ks. IsTrail ks (among []) a.entries) known h.trail) h.forced (subst (λ ks. IsConflict ks (is_false a) n) known h.conflict) clause (hints ∙ ap (λ fs. reasons fs (n ∷ [])) read) (so ∙ ap (λ ss. ss ++ s ∷ []) none)
-
--- ---- all decisions are taken back
-pub back_at : (known : List (List ℤ)) (w : Watches) (a b : Assigned) (first head : ℕ) → Stable known w a → IsDecision a.entries first → b.entries ≡ take first a.entries → b.variables ≡ a.variables → head ≡ length b.entries →
-    Stable known w b × GuardedTo known w b head
-back_at known w a b first head s d so same is = (
-  cut_standing known w a b first s so same,
-  subst (λ es. AreGuarded known w.pairs (falsified (among []) es) (is_false b)) (sym (take_all b.entries head (omega (arith, is)))) (cut_guarded known w a b first s d so),
-)
-
-pub restarted : (cnf : Cnf) (old new : List ProofStep) (w : Watches) (a b : Assigned) (head next : ℕ) → Learns cnf old new w a head →
-    (Stable (known_with cnf new) w a → GuardedTo (known_with cnf new) w a head → Stable (known_with cnf new) w b × GuardedTo (known_with cnf new) w b next) → next ≤ length b.entries → b.variables ≡ a.variables →
-    Learns cnf old new w b next
-restarted cnf old new w a b head next l kept low same =
-    let k = kept l.standing l.guarded in
-    record { standing = k.0; guarded = k.1; low = low; valid = l.valid; fresh = l.fresh; within = l.within; same = same ∙ l.same; more = l.more }

@@ -6,7 +6,6 @@ mod cutting;
 mod finding;
 mod learning;
 mod propagating;
-mod restarts;
 mod scores;
 mod searching;
 mod slots;

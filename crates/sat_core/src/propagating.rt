@@ -110,6 +110,7 @@ fn falsify(
             }
         }
     }
+    watches.lists.give_back(list);
     Ok(conflict)
 }
 

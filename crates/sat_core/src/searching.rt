@@ -1,17 +1,16 @@
 //! The search itself: to decide, to make units true, and to learn from each conflict.
 
-ghost use Rattle.std.specs.Prelude.{ℤ, List, ◌≡◌, ◌≤◌, ◌<◌, ◌+◌, ◌*◌, [], length, IfOk};
+ghost use Rattle.std.specs.Prelude.{◌≡◌, ◌≤◌, ◌<◌, ◌+◌, ◌*◌, [], length, IfOk};
 ghost use Rattle.cnf_core.specs.Derivations.{known_with, IsWithin};
 ghost use Rattle.sat_core.specs.Trails.{is_false, unassigned};
-ghost use Rattle.sat_core.specs.declared.watching.Watches.{Watches};
 ghost use Rattle.sat_core.specs.Rest.{IsConflict};
-ghost use Rattle.sat_core.specs.States.{Stable, GuardedTo};
+ghost use Rattle.sat_core.specs.States.{Stable};
 ghost use Rattle.sat_core.specs.Cuts.{IsDecision, NoDecision};
 ghost use Rattle.sat_core.specs.Starting.{Starting};
 ghost use Rattle.sat_core.specs.Endings.{IsEnding};
 ghost use Rattle.sat_core.specs.Searches.{Learns};
 
-use crate::cutting::{Lesson, Resolvent, is_decision, last_decision};
+use crate::cutting::{Lesson, Resolvent, last_decision};
 use crate::learning::refute;
 use crate::propagating::propagate;
 use crate::scores::Scores;
@@ -36,24 +35,8 @@ pub enum Ending {
     Spent,
 }
 
-/// Takes all decisions back. Answers how many entries have then been seen to.
-fn restart(trail: &mut Trail, scores: &mut Scores, head: usize) -> usize
-    requires { head ≤ length trail.old.entries }
-    ensures kept { (known : List (List ℤ)) (watches : Watches) → Stable known watches trail.old → GuardedTo known watches trail.old head →
-        Stable known watches trail.new × GuardedTo known watches trail.new result }
-    ensures low { result ≤ length trail.new.entries }
-    ensures same { trail.new.variables ≡ trail.old.variables }
-{
-    let first = trail.first();
-    if !is_decision(trail.entries(), first) {
-        return head;
-    }
-    trail.cut(scores, first);
-    trail.len()
-}
-
-/// Learns a step from a conflict, jumps back to where its clause has a unit, makes that true, and now
-/// and then starts again from no decision. Answers how many entries have been seen to.
+/// Learns a step from a conflict, jumps back to where its clause has a unit, and makes that true.
+/// Answers how many entries have been seen to.
 fn learn(
     alloc: Global,
     cnf: &Cnf,
@@ -81,14 +64,12 @@ fn learn(
     let lesson = teach(
         alloc, cnf, known, resolvent, scores, entries, start, first, conflict,
     )?;
+    scores.decay();
     trail.cut(scores, lesson.cut);
     let head = trail.len();
     take_up(watches, trail, lesson.step.clause.as_slice())?;
     let Lesson { step, cut: _ } = lesson;
     steps.push(step)?;
-    if scores.decay() {
-        return Ok(restart(trail, scores, head));
-    }
     Ok(head)
 }
 

@@ -22,18 +22,21 @@ pub struct Pair {
     pub second: Lit,
 }
 
-/// The clauses that watch each literal.
+/// The clauses that watch each literal, and an empty list whose memory serves again.
 #[derive(Drop)]
 pub struct Lists {
     lists: Vec<Items<u64>>,
+    spare: Items<u64>,
 }
 
 impl Model for Lists {
-    ghost use Rattle.std.specs.Prelude.{ℕ, List};
+    ghost use Rattle.std.specs.Prelude.{ℕ, List, ◌≡◌, []};
 
     ghost Value = { List (List ℕ) };
 
     ghost view = { λ l. l.lists.items };
+
+    ghost invariant = { λ l. l.spare ≡ [] };
 }
 
 /// The pair of each clause, none where it has no two different literals, and the lists.
@@ -51,6 +54,19 @@ fn list_of(lit: Lit) -> usize
     if lit.is_negative() { twice - 1 } else { twice }
 }
 
+/// The list without its items, but with its memory.
+fn emptied(list: Items<u64>) -> Items<u64>
+    ensures { result ≡ [] }
+{
+    let mut left = list;
+    loop {
+        match left.pop() {
+            None => return left,
+            Some(_) => {}
+        }
+    }
+}
+
 impl Lists {
     pub fn new(alloc: Global, variables: u64) -> Result<Lists, NoMemory>
         ensures { IfOk result (λ lists. length lists ≡ 2 * variables + 1) }
@@ -61,7 +77,10 @@ impl Lists {
             lists.push(Items::new(alloc))?;
         }
         lists.push(Items::new(alloc))?;
-        Ok(Lists { lists })
+        Ok(Lists {
+            lists,
+            spare: Items::new(alloc),
+        })
     }
 
     /// Takes the list of a literal, which is then empty.
@@ -70,7 +89,15 @@ impl Lists {
         ensures list { result ≡ list_at self.old lit }
         ensures rest { self.new ≡ slice_set self.old (list_place lit) [] }
     {
-        replace(&mut self.lists[list_of(lit)], Items::new(alloc))
+        let spare = replace(&mut self.spare, Items::new(alloc));
+        replace(&mut self.lists[list_of(lit)], spare)
+    }
+
+    /// Keeps the memory of a list that was taken.
+    pub fn give_back(&mut self, list: Items<u64>)
+        ensures { self.new ≡ self.old }
+    {
+        self.spare = emptied(list);
     }
 
     pub fn push(&mut self, lit: Lit, number: u64) -> Result<(), NoMemory>

@@ -58,6 +58,9 @@ returns c p falls =
     let pairs = c.args.watches.now.pairs in
     let start = c.args.trail.now in
     let list = c.as_slice-number-items.result.now in
-    found_ok c.loop-number.conflict _ _
+    let pairs_now = c.loop-number.watches.pairs in
+    let a = c.loop-number.trail in
+    subst (λ (ls : List (List ℕ)). OnFound {E = NoMemory} (Ok c.loop-number.conflict) (Hit known l [] (record { pairs = pairs_now; lists = ls }) start a) (Fallen known p l (record { pairs = pairs_now; lists = ls }) start a)) (sym c.give_back.ensures)
+    (found_ok c.loop-number.conflict _ _
     (all_seen known l pairs start c.loop-number.trail c.loop-number.watches c.loop-number.conflict
-    (subst (λ ns. FallsAt known l pairs start ns c.loop-number.watches c.loop-number.trail c.loop-number.conflict) (drop_of_length-le list c.loop-number-test.false) c.loop-number.invariant) p falls)
+    (subst (λ ns. FallsAt known l pairs start ns c.loop-number.watches c.loop-number.trail c.loop-number.conflict) (drop_of_length-le list c.loop-number-test.false) c.loop-number.invariant) p falls))
