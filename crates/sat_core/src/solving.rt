@@ -24,6 +24,15 @@ pub enum Answer {
     Spent(Derivation),
 }
 
+fn crosses<T: Send + Sync>(_: &T) {}
+
+/// Clauses, derivations and answers may be handed to other threads, and read by several at once.
+fn all_cross(cnf: &Cnf, derivation: &Derivation, answer: &Answer) {
+    crosses(cnf);
+    crosses(derivation);
+    crosses(answer);
+}
+
 /// Values that make every clause true, or a derivation of the empty clause, or as many valid steps
 /// as the budget, none of which is empty or contains an earlier clause.
 ///
