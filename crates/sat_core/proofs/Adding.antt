@@ -1,21 +1,21 @@
 -- One more clause is watched, and its unit made true.
-use Rattle.std.proofs.Common.{ℕ, zero, suc, ◌+◌, ◌*◌, ◌<◌, ◌≤◌, ℤ, neg_ℤ, pos, Bool, true, false, List, [], ◌∷◌, ◌++◌, ◌≡◌, ◌≢◌, refl, Option, Some, None, length, take, slice_get, sym, subst, ap, ◌∙◌, arith, true≢false, ⊎_elim, ◌⊎◌, inl, inr, length-append}
+use Rattle.std.proofs.Common.{ℕ, zero, suc, ◌+◌, ◌*◌, ◌<◌, ℤ, neg_ℤ, pos, Bool, true, false, List, [], ◌∷◌, ◌++◌, ◌≡◌, refl, Option, Some, None, length, take, slice_get, sym, subst, ap, ◌∙◌, arith, true≢false, ⊎_elim, ◌⊎◌, inl, inr}
 use Rattle.std.specs.List.{All}
 use Rattle.std.specs.Ordering.{int_eq}
 use Rattle.std.proofs.lemmas.List.{length-set, length_push}
 use Rattle.std.proofs.lemmas.List.Elements.{All-push, All-take, All-head, All-tail}
 use Rattle.std.proofs.lemmas.Option.{slice_get_within}
 use Rattle.cnf_core.specs.Literals.{Names}
-use Rattle.cnf_core.specs.Validity.{among, also, unit_of, numbered}
+use Rattle.cnf_core.specs.Validity.{among, also, numbered}
 use Rattle.sat_core.specs.declared.trail.Entry.{Entry}
 use Rattle.sat_core.specs.declared.watching.Pair.{Pair}
 use Rattle.sat_core.specs.declared.watching.Watches.{Watches}
-use Rattle.sat_core.specs.Trails.{Assigned, is_false, falsified, IsTrail, IsFree, HasReason, AreNamed}
+use Rattle.sat_core.specs.Trails.{Assigned, is_false, falsified, IsTrail, HasReason, AreNamed}
 use Rattle.sat_core.specs.Watching.{IsRoom, list_place, list_at, listed_more, listed_pair, pair_of_rest, Holds, IsListed, AreListed, Stands, Guards, EachPair, ArePlaced, AreGuarded, AtDecisions}
-use Rattle.sat_core.specs.States.{Standing, Stable, GuardedTo}
-use Rattle.sat_core.specs.Cuts.{front, IsDecision, NoDecision, BeforeCut, Asserts}
-use Rattle.sat_core.proofs.Replay.{Within, itself, or_left, or_right}
-use Rattle.sat_core.proofs.Passes.{place_within, guards_up, still_holds, now_holds, decisions_append}
+use Rattle.sat_core.specs.States.{Stable}
+use Rattle.sat_core.specs.Cuts.{front, IsDecision, Asserts}
+use Rattle.sat_core.proofs.Replay.{itself, or_left, or_right}
+use Rattle.sat_core.proofs.Passes.{place_within, still_holds, now_holds}
 use Rattle.sat_core.proofs.Lessons.{decided_at, decisions_from}
 use Rattle.sat_core.proofs.Cuts.{front_up, take_twice}
 

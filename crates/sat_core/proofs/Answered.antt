@@ -1,5 +1,5 @@
 -- What a call that answered says.
-use Rattle.std.proofs.Common.{ℕ, Bool, true, false, Result, ◌≡◌, Option, Some, None, Ok, sym, ◌∙◌, subst}
+use Rattle.std.proofs.Common.{ℕ, Bool, true, false, ◌≡◌, Option, Some, None, Ok, subst}
 use Rattle.js_units.specs.declared.memory.NoMemory.{NoMemory}
 use Rattle.sat_core.specs.States.{OnFound, OnAnswer}
 

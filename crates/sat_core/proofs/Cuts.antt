@@ -1,22 +1,19 @@
 -- The clause and hints of the first cut.
-use Rattle.std.proofs.Common.{ℕ, zero, suc, ◌+◌, ◌-◌, ◌<◌, ◌≤◌, ℤ, pos, negsuc, neg_ℤ, unsigned_abs, Bool, true, false, not, ◌||◌, List, [], ◌∷◌, ◌++◌, ◌≡◌, ◌≢◌, refl, Option, Some, None, length, take, drop, set, get_or, slice_get, unwrap_or, sym, subst, ap, ◌∙◌, arith, true≢false, ⊎_elim, ◌⊎◌, inl, inr, option_and_then}
-use Rattle.std.specs.List.{All, find}
+use Rattle.std.proofs.Common.{ℕ, zero, suc, ◌+◌, ◌-◌, ◌<◌, ◌≤◌, ℤ, neg_ℤ, unsigned_abs, Bool, true, false, not, ◌||◌, List, [], ◌∷◌, ◌++◌, ◌≡◌, refl, Option, Some, length, take, set, get_or, slice_get, unwrap_or, sym, subst, ap, ◌∙◌, arith, true≢false, ⊎_elim, ◌⊎◌, inl, inr, option_and_then}
+use Rattle.std.specs.List.{find}
 use Rattle.std.specs.Ordering.{int_eq}
 use Rattle.std.proofs.lemmas.Bool.{cases_eq}
 use Rattle.std.proofs.lemmas.List.{length-set, take_more}
-use Rattle.std.proofs.lemmas.List.Elements.{All-head, All-tail}
-use Rattle.std.proofs.lemmas.Option.{slice_get_within, get_or_from_slice_get}
-use Rattle.cnf_core.specs.Literals.{Names}
-use Rattle.cnf_core.specs.Validity.{among, also, is_falsified, unit_of, numbered, leads, if_some, is_plain, is_valid}
+use Rattle.cnf_core.specs.Validity.{among, also, is_falsified, unit_of, numbered, leads, if_some}
 use Rattle.sat_core.specs.declared.trail.Entry.{Entry}
 use Rattle.sat_core.specs.declared.cutting.Resolvent.{Resolvent}
 use Rattle.sat_core.specs.Trails.{falsified, IsTrail, IsFree, HasReason, AreNamed}
 use Rattle.sat_core.specs.Rest.{IsConflict}
-use Rattle.sat_core.specs.Cuts.{marked, Marks, onto, front, CutAt, NoDecision, IsDecision, NoneMarked, BeforeCut, Asserts, IsOne, AssertsOf, KeepsAt, Asserting, StillAsserting}
-use Rattle.sat_core.proofs.Replay.{Within, and_both, or_left, or_right, or_none_of, true_or_false, same, itself, twice, unit_here, unit_found, leads_cons}
-use Rattle.sat_core.proofs.Setting.{get_here, get_there, abs_opposite, apart}
+use Rattle.sat_core.specs.Cuts.{marked, Marks, onto, front, CutAt, NoDecision, IsDecision, NoneMarked, BeforeCut, IsOne, KeepsAt, Asserting, StillAsserting}
+use Rattle.sat_core.proofs.Replay.{Within, or_left, or_right, true_or_false, same, itself, unit_here, unit_found, leads_cons}
+use Rattle.sat_core.proofs.Setting.{get_here, get_there, abs_opposite}
 use Rattle.sat_core.proofs.Clauses.{all_among}
-use Rattle.sat_core.proofs.Looks.{Agrees, test_of_all, no_longer}
+use Rattle.sat_core.proofs.Looks.{Agrees, test_of_all}
 use Rattle.sat_core.proofs.Passes.{trail_agrees, none_agrees}
 use Rattle.sat_core.proofs.Settling.{front_within, falsified_at, take_all}
 
@@ -236,9 +233,6 @@ module _ (known : List (List ℤ)) (most : ℕ) (es : List Entry) (i : ℕ) (e :
           later = λ k t. let l = cut.later k (subst (λ z. among z k ≡ true) clause t) in (l.0, lower k l.1);
           some = (n, onto old.hints [], ap (λ hs. onto hs []) hints ∙ onto_push old.hints [] n);
         }
-
-pub same_clause : (o : Option (List ℤ)) (c d : List ℤ) → o ≡ Some d → o ≡ Some c → c ≡ d
-same_clause o c d e f = let q : Some c ≡ Some d = sym f ∙ e in cc
 
 -- ---- where the clause is asserted
 pub keeps_cut : (known : List (List ℤ)) (most : ℕ) (es : List Entry) (i : ℕ) (old new : Resolvent) → IsTrail known (among []) es → AreNamed most es → KeepsAt es i old new → CutAt known es (i + 1) old → CutAt known es i new

@@ -1,8 +1,7 @@
 -- Trails and what is learnt from them, one part after another.
 use Rattle.std.proofs.Common.{ℕ, ℤ, neg_ℤ, Bool, List, [], ◌∷◌, ◌++◌, ◌≡◌, ◌≢◌, refl, Option, Some, None, sym, subst, ap, ◌∙◌, append_assoc, get_or, take, length, ◌<◌, ◌+◌}
-use Rattle.std.specs.List.{All}
 use Rattle.std.proofs.lemmas.List.{take_more, append-nil}
-use Rattle.std.proofs.lemmas.List.Elements.{All-nil, All-head, All-tail, All-push, All-pop}
+use Rattle.std.proofs.lemmas.List.Elements.{All-nil, All-push, All-pop}
 use Rattle.cnf_core.specs.Literals.{Names}
 use Rattle.cnf_core.specs.Validity.{among, also}
 use Rattle.sat_core.specs.declared.trail.Entry.{Entry}

@@ -1,12 +1,12 @@
 -- What is learnt at the first cut is valid, asserted and new.
-use Rattle.std.proofs.Common.{ℕ, zero, suc, ◌+◌, ◌<◌, ◌≤◌, ℤ, pos, negsuc, neg_ℤ, Bool, true, false, not, ◌||◌, List, [], ◌∷◌, ◌++◌, ◌≡◌, ◌≢◌, refl, Option, Some, None, length, take, get_or, slice_get, sym, subst, ap, ◌∙◌, arith, true≢false, ⊎_elim, ◌⊎◌, inl, inr}
-use Rattle.std.specs.List.{All, list_all}
+use Rattle.std.proofs.Common.{ℕ, zero, suc, ℤ, pos, negsuc, neg_ℤ, Bool, true, false, not, ◌||◌, List, [], ◌∷◌, ◌≡◌, refl, Option, Some, None, take, get_or, slice_get, sym, subst, ap, ◌∙◌, true≢false, ⊎_elim, inr}
+use Rattle.std.specs.List.{All}
 use Rattle.std.specs.Ordering.{int_eq}
 use Rattle.std.proofs.lemmas.List.Elements.{All-head, All-tail}
 use Rattle.std.proofs.lemmas.List.Folds.{list_any_at}
 use Rattle.std.proofs.lemmas.Option.{slice_get-get_or}
 use Rattle.cnf_core.specs.Literals.{Names}
-use Rattle.cnf_core.specs.Validity.{among, also, contains, is_falsified, unit_of, numbered, leads, is_plain, is_valid}
+use Rattle.cnf_core.specs.Validity.{among, also, contains, is_falsified, unit_of, numbered, leads, is_plain}
 use Rattle.cnf_core.specs.Derivations.{IsFresh}
 use Rattle.sat_core.specs.declared.trail.Entry.{Entry}
 use Rattle.sat_core.specs.declared.cutting.Resolvent.{Resolvent}
@@ -14,12 +14,11 @@ use Rattle.sat_core.specs.declared.cutting.Lesson.{Lesson}
 use Rattle.sat_core.specs.Trails.{falsified, IsTrail, AreNamed}
 use Rattle.sat_core.specs.Rest.{IsRest}
 use Rattle.sat_core.specs.Watching.{AtDecisions, HeldAt}
-use Rattle.sat_core.specs.Cuts.{onto, front, CutAt, IsDecision, Asserting, Asserts, Teaches}
+use Rattle.sat_core.specs.Cuts.{onto, CutAt, Asserting, Teaches}
 use Rattle.sat_core.proofs.Replay.{and_both, or_left, or_right, true_or_false, same, itself, unit_here}
 use Rattle.sat_core.proofs.Clauses.{all_among, has_new}
-use Rattle.sat_core.proofs.Looks.{Agrees, test_of_all}
+use Rattle.sat_core.proofs.Looks.{test_of_all}
 use Rattle.sat_core.proofs.Passes.{trail_agrees, none_agrees}
-use Rattle.sat_core.proofs.Settling.{front_within}
 
 false_unless : (b : Bool) → (b ≡ true → ⊥) → b ≡ false
 false_unless true f = absurd (f refl)

@@ -1,15 +1,14 @@
 -- Watched literals: what a look shows, and that guarded clauses are at rest.
-use Rattle.std.proofs.Common.{ℕ, zero, suc, ℤ, neg_ℤ, Bool, true, false, not, ◌&&◌, ◌||◌, cond, List, [], ◌∷◌, ◌≡◌, ◌≢◌, refl, Option, Some, None, sym, subst, ap, ◌∙◌, true≢false, ⊎_elim, ◌⊎◌, inl, inr}
+use Rattle.std.proofs.Common.{ℕ, ℤ, neg_ℤ, Bool, true, false, not, ◌&&◌, ◌||◌, cond, List, [], ◌∷◌, ◌≡◌, ◌≢◌, refl, Option, Some, None, sym, subst, ap, ◌∙◌, true≢false, ⊎_elim}
 use Rattle.std.specs.List.{All, find, list_all}
 use Rattle.std.proofs.lemmas.List.Elements.{All-head, All-tail}
 use Rattle.cnf_core.specs.Literals.{Names}
 use Rattle.std.specs.Ordering.{int_eq}
-use Rattle.cnf_core.specs.Validity.{among, also, is_falsified, unit_of, numbered}
+use Rattle.cnf_core.specs.Validity.{among, also, is_falsified, unit_of}
 use Rattle.sat_core.specs.declared.watching.Pair.{Pair}
-use Rattle.sat_core.specs.Trails.{IsFree}
 use Rattle.sat_core.specs.Rest.{RestsAt}
-use Rattle.sat_core.specs.Watching.{Stands, Guards, IsPairOf, IsWatched, replaces}
-use Rattle.sat_core.proofs.Replay.{and_parts, and_both, or_left, or_right, true_or_false, same, itself, twice, unit_here, unit_found}
+use Rattle.sat_core.specs.Watching.{Stands, Guards, IsWatched, replaces}
+use Rattle.sat_core.proofs.Replay.{and_parts, or_left, or_right, true_or_false, same, itself, unit_here, unit_found}
 use Rattle.sat_core.proofs.Units.{unit_free}
 use Rattle.sat_core.proofs.Clauses.{all_among}
 use Rattle.sat_core.proofs.Setting.{apart}

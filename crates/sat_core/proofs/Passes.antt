@@ -1,5 +1,5 @@
 -- A clause whose watched literal became false keeps its pair, moves one of it, or forces the other.
-use Rattle.std.proofs.Common.{ℕ, zero, suc, ◌+◌, ◌*◌, ◌<◌, ◌≤◌, ℤ, pos, negsuc, neg_ℤ, unsigned_abs, Bool, true, false, not, ◌||◌, List, [], ◌∷◌, ◌++◌, ◌≡◌, ◌≢◌, refl, Option, Some, None, length, set, get_or, slice_get, sym, subst, ap, ◌∙◌, arith, true≢false, ⊎_elim, ◌⊎◌, inl, inr}
+use Rattle.std.proofs.Common.{ℕ, zero, suc, ◌+◌, ◌*◌, ◌<◌, ℤ, pos, negsuc, neg_ℤ, Bool, true, false, ◌||◌, List, [], ◌∷◌, ◌++◌, ◌≡◌, ◌≢◌, refl, Option, Some, None, length, set, get_or, slice_get, sym, subst, ap, ◌∙◌, arith, true≢false, ⊎_elim, ◌⊎◌, inl, inr}
 use Rattle.std.specs.List.{All}
 use Rattle.std.specs.Ordering.{int_eq}
 use Rattle.std.proofs.lemmas.Bool.{cases_eq}
@@ -7,21 +7,21 @@ use Rattle.std.proofs.lemmas.List.{length-set}
 use Rattle.std.proofs.lemmas.List.Elements.{All-push, All-head, All-tail}
 use Rattle.std.proofs.lemmas.Option.{slice_get_within}
 use Rattle.cnf_core.specs.Literals.{Names}
-use Rattle.cnf_core.specs.Validity.{among, also, is_falsified, unit_of, numbered}
+use Rattle.cnf_core.specs.Validity.{among, also, unit_of, numbered}
 use Rattle.sat_core.specs.declared.trail.Entry.{Entry}
 use Rattle.sat_core.specs.declared.watching.Pair.{Pair}
 use Rattle.sat_core.specs.declared.watching.Watches.{Watches}
 use Rattle.sat_core.specs.Trails.{Assigned, is_false, falsified, IsTrail, IsFree, AreNamed}
-use Rattle.sat_core.specs.Rest.{Grows, IsConflict}
+use Rattle.sat_core.specs.Rest.{Grows}
 use Rattle.sat_core.specs.Watching.{list_place, list_at, listed_more, Holds, Stands, Guards, EachPair, ArePlaced, AreGuarded, HeldAt, AtDecisions, IsListed, AreListed, IsPairOf, IsWatched, IsKept}
-use Rattle.sat_core.specs.States.{Standing, Falling, Below, Hit, Passed}
+use Rattle.sat_core.specs.States.{Standing, Falling}
 use Rattle.sat_core.proofs.Replay.{Within, or_left, or_right, or_none_of, true_or_false, same, itself, twice}
 use Rattle.sat_core.proofs.Known.{at_number}
 use Rattle.sat_core.proofs.Units.{unit_free, unit_named}
 use Rattle.sat_core.proofs.Setting.{apart, get_here, get_there}
-use Rattle.sat_core.proofs.Growing.{falsified_append, trail_append, pushed, grows_none, grows_more}
+use Rattle.sat_core.proofs.Growing.{trail_append, pushed, grows_none, grows_more}
 use Rattle.sat_core.proofs.Room.{falsified_within}
-use Rattle.sat_core.proofs.Looks.{Agrees, watched_among, named_among}
+use Rattle.sat_core.proofs.Looks.{Agrees, watched_among}
 
 -- ---- no literal is false with its opposite
 own_opposite : (most : ℕ) (l : ℤ) → Names most l → neg_ℤ l ≢ l

@@ -34,16 +34,6 @@ pub or_none_of : (a b : Bool) → a ≡ false → b ≡ false → (a || b) ≡ f
 or_none_of true b h k = absurd (true≢false h)
 or_none_of false b h k = k
 
-or_swap : (a b c : Bool) → (a || (b || c)) ≡ ((b || a) || c)
-or_swap true true c = refl
-or_swap true false c = refl
-or_swap false true c = refl
-or_swap false false c = refl
-
-or_deep : (a b c : Bool) → (a || (b || c)) ≡ ((a || b) || c)
-or_deep true b c = refl
-or_deep false b c = refl
-
 pub true_or_false : (b : Bool) → (b ≡ true) ⊎ (b ≡ false)
 true_or_false true = inl refl
 true_or_false false = inr refl
@@ -105,12 +95,6 @@ unit_found p c l None e u = absurd (cc)
 unit_found p c l (Some k) e u =
     let v = unit_case (is_unit p c k) k l u in
     (subst (λ x. among c x ≡ true) v.0 (found_among p c k e), subst (λ x. is_falsified (also p x) c ≡ true) v.0 (and_parts _ _ v.1).1)
-
--- a unit stays one where more is false, but neither it nor its opposite
-unit_stays : (p q : ℤ → Bool) (c : List ℤ) (l : ℤ) → Within p q → q l ≡ false → q (neg_ℤ l) ≡ false → unit_of p c ≡ Some l → unit_of q c ≡ Some l
-unit_stays p q c l w f g u =
-    let v = unit_found p c l (find (λ x. not (p x)) c) refl u in
-    unit_here q c l f g v.0 (falsified_under (also p l) (also q l) c (λ k. or_keep (int_eq l k) (p k) (q k) (w k)) v.1)
 
 module _ (known : List (List ℤ)) where
   more_than_one : (r : Option ℕ) (ns : List ℕ) → ((g : ℕ) × (hs : List ℕ) × (ns ≡ g ∷ hs)) → (g : ℕ) × (hs : List ℕ) × (with_reason r ns ≡ g ∷ hs)

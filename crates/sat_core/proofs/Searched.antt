@@ -1,5 +1,5 @@
 -- A search from one conflict to the next.
-use Rattle.std.proofs.Common.{ℕ, ◌+◌, ◌-◌, ◌*◌, ◌<◌, ◌≤◌, ◌^◌, ℤ, neg_ℤ, pos, Bool, true, List, [], ◌∷◌, ◌++◌, ◌≡◌, ◌≢◌, refl, Option, Some, None, map, length, take, slice_get, get_or, sym, subst, ap, ◌∙◌, arith, append_assoc}
+use Rattle.std.proofs.Common.{ℕ, ◌+◌, ◌-◌, ◌*◌, ◌<◌, ◌≤◌, ℤ, neg_ℤ, Bool, true, List, [], ◌∷◌, ◌++◌, ◌≡◌, ◌≢◌, refl, Some, None, map, length, take, get_or, sym, subst, ap, ◌∙◌, arith, append_assoc}
 use Rattle.std.specs.List.{All}
 use Rattle.std.proofs.lemmas.List.{length_push, append-nil}
 use Rattle.std.proofs.lemmas.List.Elements.{All-nil, All-push}
@@ -10,14 +10,14 @@ use Rattle.cnf_core.specs.declared.clauses.ProofStep.{ProofStep}
 use Rattle.cnf_core.specs.Literals.{Names}
 use Rattle.std.specs.Ordering.{int_eq}
 use Rattle.cnf_core.specs.Validity.{among, also}
-use Rattle.cnf_core.specs.Derivations.{known_with, StepsWithin, AllValid, AllFresh}
+use Rattle.cnf_core.specs.Derivations.{known_with}
 use Rattle.sat_core.specs.declared.trail.Entry.{Entry}
 use Rattle.sat_core.specs.declared.watching.Watches.{Watches}
 use Rattle.sat_core.specs.declared.cutting.Lesson.{Lesson}
 use Rattle.sat_core.specs.Endings.{derivation_of, IsSpent, IsRefuted, IsFull}
 use Rattle.sat_core.specs.Trails.{Assigned, is_false, falsified, IsTrail, IsFree, AreNamed, IsTotal}
-use Rattle.sat_core.specs.Rest.{Grows, IsConflict}
-use Rattle.sat_core.specs.Watching.{Guards, AreGuarded, AtDecisions}
+use Rattle.sat_core.specs.Rest.{IsConflict}
+use Rattle.sat_core.specs.Watching.{AreGuarded, AtDecisions}
 use Rattle.sat_core.specs.States.{Stable, GuardedTo, Stopped, Rested}
 use Rattle.sat_core.specs.Cuts.{front, NoDecision, Teaches}
 use Rattle.sat_core.specs.Learning.{reasons}
@@ -32,7 +32,6 @@ use Rattle.sat_core.proofs.Counting.{few_steps}
 use Rattle.sat_core.proofs.Steps.{refuted}
 use Rattle.sat_core.proofs.Taught.{lesson_free, lesson_fresh, lesson_valid, lesson_within}
 use Rattle.sat_core.proofs.TakenUp.{taken_stable, taken_guarded}
-use Rattle.sat_core.proofs.Adding.{cut_standing}
 
 map_push : (f : ProofStep → List ℤ) (ss : List ProofStep) (s : ProofStep) → map f (ss ++ s ∷ []) ≡ map f ss ++ f s ∷ []
 map_push f [] s = refl

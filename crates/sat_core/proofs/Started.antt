@@ -1,25 +1,24 @@
 -- The clauses are watched one after another, and nothing is decided.
-use Rattle.std.proofs.Common.{ℕ, zero, suc, ◌+◌, ◌*◌, ◌<◌, ℤ, neg_ℤ, pos, Bool, true, false, not, List, [], ◌∷◌, ◌++◌, ◌≡◌, ◌≢◌, refl, Option, Some, None, length, take, drop, get_or, slice_get, sym, subst, ap, ◌∙◌, arith, true≢false, ⊎_elim}
+use Rattle.std.proofs.Common.{ℕ, suc, ◌+◌, ◌*◌, ℤ, neg_ℤ, Bool, true, false, not, List, [], ◌∷◌, ◌++◌, ◌≡◌, ◌≢◌, refl, Option, Some, None, length, slice_get, sym, subst, ap, ◌∙◌, arith, true≢false}
 use Rattle.std.specs.List.{All, find}
 use Rattle.std.specs.Ordering.{int_eq}
 use Rattle.std.proofs.lemmas.List.Elements.{All-append, All-head, All-tail, All-nil}
-use Rattle.std.proofs.lemmas.Option.{slice_get-get_or}
 use Rattle.cnf_core.specs.Literals.{Names}
 use Rattle.cnf_core.specs.Validity.{among, also, is_falsified, unit_of, numbered}
 use Rattle.sat_core.specs.declared.trail.Entry.{Entry}
 use Rattle.sat_core.specs.declared.watching.Pair.{Pair}
 use Rattle.sat_core.specs.declared.watching.Watches.{Watches}
-use Rattle.sat_core.specs.Trails.{Assigned, unassigned, is_false, falsified, IsTrail, IsFree, AreNamed}
-use Rattle.sat_core.specs.Rest.{Grows, IsConflict}
-use Rattle.sat_core.specs.Watching.{IsRoom, listed_pair, list_place, Stands, Guards, EachPair, AreGuarded, AreListed, AtDecisions, HeldAt}
+use Rattle.sat_core.specs.Trails.{Assigned, unassigned, is_false, falsified, IsTrail, AreNamed}
+use Rattle.sat_core.specs.Rest.{Grows}
+use Rattle.sat_core.specs.Watching.{IsRoom, listed_pair, Stands, Guards, AreGuarded, AtDecisions, HeldAt}
 use Rattle.sat_core.specs.States.{Stable, GuardedTo}
-use Rattle.sat_core.specs.Cuts.{front, NoDecision}
+use Rattle.sat_core.specs.Cuts.{front}
 use Rattle.sat_core.specs.Starting.{IsAlone, AreForced, Starting, Clashing}
-use Rattle.sat_core.proofs.Replay.{Within, itself, same, or_left, or_right, true_or_false, unit_here}
+use Rattle.sat_core.proofs.Replay.{Within, itself, same, or_left, unit_here}
 use Rattle.sat_core.proofs.Known.{all_at}
 use Rattle.sat_core.proofs.Clauses.{all_among}
 use Rattle.sat_core.proofs.Room.{falsified_within}
-use Rattle.sat_core.proofs.Growing.{falsified_append, trail_append, grown_trail, grows_none, grows_more}
+use Rattle.sat_core.proofs.Growing.{falsified_append, grown_trail}
 use Rattle.sat_core.proofs.Looks.{find_some, find_none, named_among}
 use Rattle.sat_core.proofs.Passes.{guards_up, decisions_append}
 use Rattle.sat_core.proofs.Adding.{added, each_push, get_last, place_for, room_in, trail_more, numbered_more}

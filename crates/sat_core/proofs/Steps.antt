@@ -1,18 +1,16 @@
 -- Steps.
-use Rattle.std.proofs.Common.{ℕ, zero, suc, ◌+◌, ◌<◌, ◌≤◌, ◌≡◌, ◌≢◌, refl, ℤ, true, List, [], ◌∷◌, ◌++◌, length, take, Option, Some, None, slice_get, sym, subst, ap, ◌∙◌, arith, ◌⊎◌, inl, inr, ⊎_elim}
+use Rattle.std.proofs.Common.{ℕ, zero, suc, ◌+◌, ◌<◌, ◌≤◌, ◌≡◌, refl, ℤ, true, List, [], ◌∷◌, ◌++◌, length, take, Some, slice_get, sym, subst, ap, ◌∙◌, arith, ◌⊎◌, inl, inr, ⊎_elim}
 use Rattle.std.specs.List.{All}
 use Rattle.std.proofs.lemmas.List.{take-append-le, length_push}
 use Rattle.std.proofs.lemmas.List.Elements.{All-nil, All-push}
 use Rattle.std.proofs.Math.Seq.{take-append_seam}
 use Rattle.cnf_core.specs.declared.clauses.Cnf.{Cnf}
 use Rattle.cnf_core.specs.declared.clauses.ProofStep.{ProofStep}
-use Rattle.cnf_core.specs.declared.clauses.Derivation.{Derivation}
 use Rattle.cnf_core.specs.Literals.{Names}
 use Rattle.cnf_core.specs.Validity.{among, is_valid}
-use Rattle.cnf_core.specs.Derivations.{known_with, StepsWithin, AllValid, HasEmpty, IsFresh, AllFresh}
-use Rattle.sat_core.specs.declared.trail.Entry.{Entry}
+use Rattle.cnf_core.specs.Derivations.{known_with, StepsWithin, AllValid, HasEmpty}
 use Rattle.sat_core.specs.Endings.{derivation_of, IsRefuted}
-use Rattle.sat_core.specs.Trails.{Assigned, is_false, falsified, IsTrail, AreNamed}
+use Rattle.sat_core.specs.Trails.{Assigned, is_false, IsTrail}
 use Rattle.sat_core.specs.Rest.{IsConflict}
 use Rattle.sat_core.specs.Learning.{reasons}
 use Rattle.sat_core.specs.Starting.{AreForced}

@@ -1,11 +1,10 @@
 -- The steps with a learnt one are valid, new and in range.
-use Rattle.std.proofs.Common.{ℕ, ℤ, neg_ℤ, pos, Bool, true, false, List, [], ◌∷◌, ◌++◌, ◌≡◌, refl, sym, subst, ap, ◌∙◌, true≢false}
+use Rattle.std.proofs.Common.{ℤ, neg_ℤ, pos, Bool, true, false, List, [], ◌∷◌, ◌++◌, ◌≡◌, refl, sym, subst, ap, ◌∙◌, true≢false}
 use Rattle.std.specs.List.{All}
 use Rattle.std.specs.Ordering.{int_eq}
 use Rattle.std.proofs.lemmas.List.Elements.{All-push}
 use Rattle.cnf_core.specs.declared.clauses.Cnf.{Cnf}
 use Rattle.cnf_core.specs.declared.clauses.ProofStep.{ProofStep}
-use Rattle.cnf_core.specs.declared.clauses.Derivation.{Derivation}
 use Rattle.cnf_core.specs.Literals.{Names}
 use Rattle.cnf_core.specs.Validity.{among, is_valid}
 use Rattle.cnf_core.specs.Derivations.{known_with, StepsWithin, AllValid, IsFresh, AllFresh}

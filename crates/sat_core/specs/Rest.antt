@@ -1,6 +1,6 @@
 -- Clauses at rest, and unit propagation (this project's own). The clause of a number is that of `numbered`, from 1 on.
-use Rattle.std.specs.Prelude.{ℕ, ◌++◌, ℤ, neg_ℤ, Bool, true, false, List, [], ◌∷◌, ◌≡◌, ◌≢◌, Option, Some, None, All}
-use Rattle.cnf_core.specs.Validity.{also, is_falsified, unit_of, numbered}
+use Rattle.std.specs.Prelude.{ℕ, ◌++◌, ℤ, Bool, true, false, List, ◌≡◌, ◌≢◌, Some, None, All}
+use Rattle.cnf_core.specs.Validity.{is_falsified, unit_of, numbered}
 use Rattle.sat_core.specs.declared.trail.Entry.{Entry}
 use Rattle.sat_core.specs.Trails.{Assigned, IsTrail, is_false}
 

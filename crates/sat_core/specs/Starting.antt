@@ -1,5 +1,5 @@
 -- The pass over all clauses with which a search starts (this project's own).
-use Rattle.std.specs.Prelude.{ℕ, ℤ, Bool, true, List, [], ◌≡◌, ◌≢◌, None, All}
+use Rattle.std.specs.Prelude.{ℕ, ℤ, true, List, [], ◌≡◌, ◌≢◌, None, All}
 use Rattle.cnf_core.specs.Validity.{among}
 use Rattle.sat_core.specs.declared.trail.Entry.{Entry}
 use Rattle.sat_core.specs.declared.watching.Watches.{Watches}

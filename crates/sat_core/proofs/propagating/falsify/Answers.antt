@@ -1,9 +1,9 @@
-use Rattle.std.proofs.Common.{ℕ, ◌+◌, ◌*◌, ◌<◌, ◌≡◌, ◌∷◌, [], length, drop, get_or, true, false, Some, None, sym, subst, ap, ◌∙◌, arith, refl, List, Bool, Option, Result, Ok, Err}
+use Rattle.std.proofs.Common.{ℕ, ◌+◌, ◌*◌, ◌<◌, ◌≡◌, ◌∷◌, [], length, drop, get_or, Some, None, sym, subst, ◌∙◌, arith, refl, List, Option, Ok}
 use Rattle.js_units.specs.declared.memory.NoMemory.{NoMemory}
 use Rattle.cnf_core.specs.Literals.{Names}
 use Rattle.std.proofs.Math.ListN.{drop_of_length-le}
 use Rattle.cnf_core.specs.Derivations.{known_with}
-use Rattle.sat_core.specs.States.{Hit, Fallen, Passed, Standing, Falling, OnFound, OnAnswer}
+use Rattle.sat_core.specs.States.{Hit, Fallen, OnFound}
 use Rattle.sat_core.specs.Watching.{list_place}
 use Rattle.sat_core.proofs.Answered.{when_true, when_false}
 use Rattle.sat_core.proofs.Passes.{place_within}

@@ -1,4 +1,4 @@
-use Rattle.std.proofs.Common.{ℕ, ◌+◌, ◌*◌, ◌-◌, ◌<◌, ◌≡◌, suc, length, sym, subst, ap, ◌∙◌, arith, set, Some, refl}
+use Rattle.std.proofs.Common.{ℕ, ◌+◌, ◌*◌, ◌-◌, ◌<◌, ◌≡◌, suc, length, ap, ◌∙◌, arith, set, refl}
 use Rattle.std.specs.List.{All}
 use Rattle.cnf_core.specs.Literals.{Names}
 use Rattle.cnf_core.specs.Derivations.{known_with}

@@ -1,4 +1,4 @@
-use Rattle.std.proofs.Common.{◌≡◌, [], neg_ℤ, take, Some, slice_get, List, sym, ap, ◌∙◌}
+use Rattle.std.proofs.Common.{[], take, slice_get, List, sym, ap, ◌∙◌}
 use Rattle.cnf_core.specs.Validity.{among}
 use Rattle.cnf_core.specs.Derivations.{known_with}
 use Rattle.sat_core.specs.declared.trail.Entry.{Entry}

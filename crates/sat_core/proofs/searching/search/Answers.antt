@@ -1,12 +1,10 @@
-use Rattle.std.proofs.Common.{◌+◌, ◌-◌, ◌*◌, ◌<◌, ◌≡◌, ◌≢◌, Some, slice_get, List, length, sym, subst, ap, ◌∙◌}
+use Rattle.std.proofs.Common.{◌+◌, ◌-◌, ◌*◌, ◌<◌, List, length, sym, subst, ◌∙◌}
 use Rattle.std.proofs.lemmas.Option.{slice_get_within}
 use Rattle.cnf_core.specs.Derivations.{known_with}
 use Rattle.sat_core.specs.declared.trail.Entry.{Entry}
-use Rattle.sat_core.specs.Trails.{is_false}
 use Rattle.sat_core.specs.States.{Stopped, Rested}
 use Rattle.sat_core.specs.Cuts.{NoDecision}
-use Rattle.sat_core.specs.Searches.{Searches, Learns}
-use Rattle.sat_core.proofs.Room.{room}
+use Rattle.sat_core.specs.Searches.{Searches}
 use Rattle.sat_core.proofs.Answered.{when_some, when_none}
 use Rattle.sat_core.proofs.Searched.{ends_refuted, ends_spent, step_smaller, ends_full, decided, decision_less}
 use Rattle.sat_core.proofs.searching.search.Goals as goal

@@ -1,6 +1,3 @@
-use Rattle.std.proofs.Common.{List, ◌++◌, [], ap, sym, subst, ◌∙◌}
-use Rattle.sat_core.specs.declared.trail.Entry.{Entry}
-use Rattle.sat_core.specs.Learning.{reasons}
 use Rattle.sat_core.proofs.Answered.{when_some}
 use Rattle.sat_core.proofs.Searched.{clashed}
 use Rattle.sat_core.proofs.searching.start.Goals as goal

@@ -1,6 +1,5 @@
-use Rattle.std.proofs.Common.{ℤ, List, ◌+◌, ◌++◌, ◌∷◌, ◌≡◌, [], take, drop, get_or, sym, subst, ap, ◌∙◌}
+use Rattle.std.proofs.Common.{◌+◌, ◌++◌, ◌∷◌, ◌≡◌, [], take, drop, get_or, sym, ap, ◌∙◌}
 use Rattle.std.proofs.lemmas.List.{take_more, take-append-drop}
-use Rattle.sat_core.specs.Starting.{Starting, Clashing}
 use Rattle.sat_core.proofs.Answered.{when_some}
 use Rattle.sat_core.proofs.Started.{clash_more}
 use Rattle.sat_core.proofs.starting.set_up.Goals as goal

@@ -1,4 +1,4 @@
-use Rattle.std.proofs.Common.{sym, subst, ap, ◌∙◌}
+use Rattle.std.proofs.Common.{sym, ap, ◌∙◌}
 use Rattle.sat_core.specs.Trails.{is_false}
 use Rattle.sat_core.proofs.Looks.{replaced, no_other, forced}
 use Rattle.sat_core.proofs.watching.look.Goals as goal

@@ -1,5 +1,4 @@
-use Rattle.std.proofs.Common.{◌-◌, ◌<◌, unsigned_abs, length, sym, subst, arith, refl}
-use Rattle.std.specs.List.{All}
+use Rattle.std.proofs.Common.{◌-◌, unsigned_abs, length, sym, subst, arith, refl}
 use Rattle.std.proofs.lemmas.List.Elements.{All-get_or}
 use Rattle.cnf_core.specs.Literals.{Names}
 use Rattle.sat_core.proofs.Cuts.{marks_more}
