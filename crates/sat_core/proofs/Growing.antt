@@ -1,21 +1,13 @@
 -- Trails and what is learnt from them, one part after another.
 use Rattle.std.proofs.Common.{ℕ, ℤ, neg_ℤ, Bool, List, [], ◌∷◌, ◌++◌, ◌≡◌, ◌≢◌, refl, Option, Some, None, sym, subst, ap, ◌∙◌, append_assoc, get_or, take, length, ◌<◌, ◌+◌}
-use Rattle.std.specs.List.{All}
 use Rattle.std.proofs.lemmas.List.{take_more, append-nil}
-use Rattle.std.proofs.lemmas.List.Elements.{All-nil, All-head, All-tail, All-push}
+use Rattle.std.proofs.lemmas.List.Elements.{All-nil, All-push, All-pop}
+use Rattle.cnf_core.specs.Literals.{Names}
 use Rattle.cnf_core.specs.Validity.{among, also}
 use Rattle.sat_core.specs.declared.trail.Entry.{Entry}
-use Rattle.sat_core.specs.Trails.{Assigned, IsTrail, IsFree, HasReason, falsified, is_false}
-use Rattle.sat_core.specs.Rest.{RestedAt, IsRested, Grows}
-use Rattle.sat_core.specs.Learning.{negated_decisions, if_decision, reasons, with_reason}
-
-decision_append : (r : Option ℕ) (l : ℤ) (xs ys : List ℤ) → if_decision r l (xs ++ ys) ≡ if_decision r l xs ++ ys
-decision_append None l xs ys = refl
-decision_append (Some n) l xs ys = refl
-
-pub negated_append : (es fs : List Entry) → negated_decisions (es ++ fs) ≡ negated_decisions es ++ negated_decisions fs
-negated_append [] fs = refl
-negated_append (e ∷ es) fs = ap (if_decision e.reason e.lit) (negated_append es fs) ∙ decision_append e.reason e.lit (negated_decisions es) (negated_decisions fs)
+use Rattle.sat_core.specs.Trails.{Assigned, IsTrail, IsFree, HasReason, falsified, is_false, AreFree, AreNamed}
+use Rattle.sat_core.specs.Rest.{Grows}
+use Rattle.sat_core.specs.Learning.{reasons, with_reason}
 
 reason_append : (r : Option ℕ) (xs ys : List ℕ) → with_reason r (xs ++ ys) ≡ with_reason r xs ++ ys
 reason_append None xs ys = refl
@@ -30,10 +22,6 @@ pub reasons_last : (es : List Entry) (last : List ℕ) → reasons es last ≡ r
 reasons_last [] last = refl
 reasons_last (e ∷ es) last = ap (with_reason e.reason) (reasons_last es last) ∙ reason_append e.reason (reasons es []) last
 
--- with one more entry of the trail
-pub negated_more : (es : List Entry) (i : ℕ) (e : Entry) → i < length es → negated_decisions (take (i + 1) es) ≡ negated_decisions (take i es) ++ if_decision (get_or es i e).reason (get_or es i e).lit []
-negated_more es i e w = ap negated_decisions (take_more es i e w) ∙ negated_append (take i es) (get_or es i e ∷ [])
-
 pub reasons_more : (es : List Entry) (i : ℕ) (e : Entry) → i < length es → reasons (take (i + 1) es) [] ≡ reasons (take i es) [] ++ with_reason (get_or es i e).reason []
 reasons_more es i e w = ap (λ fs. reasons fs []) (take_more es i e w) ∙ reasons_append (take i es) (get_or es i e ∷ []) []
 
@@ -41,35 +29,24 @@ pub falsified_append : (p : ℤ → Bool) (es fs : List Entry) → falsified p (
 falsified_append p [] fs = refl
 falsified_append p (e ∷ es) fs = falsified_append (also p (neg_ℤ e.lit)) es fs
 
+pub free_push : (p : ℤ → Bool) (es : List Entry) (e : Entry) → AreFree p es → IsFree (falsified p es) e.lit → AreFree p (es ++ e ∷ [])
+free_push p [] e t u = (u, tt)
+free_push p (x ∷ es) e t u = (t.0, free_push (also p (neg_ℤ x.lit)) es e t.1 u)
+
+-- without the last entry
+pub free_pop : (p : ℤ → Bool) (es : List Entry) (e : Entry) → AreFree p (es ++ e ∷ []) → AreFree p es × IsFree (falsified p es) e.lit
+free_pop p [] e t = (tt, t.0)
+free_pop p (x ∷ es) e t = let r = free_pop (also p (neg_ℤ x.lit)) es e t.1 in ((t.0, r.0), r.1)
+
+pub named_pop : (most : ℕ) (es : List Entry) (e : Entry) → AreNamed most (es ++ e ∷ []) → AreNamed most es × Names most e.lit
+named_pop most es e a = All-pop (λ (x : Entry). Names most x.lit) (es ++ e ∷ []) es (Some e) refl a
+
 module _ (known : List (List ℤ)) where
   pub trail_append : (p : ℤ → Bool) (es fs : List Entry) → IsTrail known p es → IsTrail known (falsified p es) fs → IsTrail known p (es ++ fs)
   trail_append p [] fs t u = u
   trail_append p (e ∷ es) fs t u = (t.0, t.1, trail_append (also p (neg_ℤ e.lit)) es fs t.2 u)
 
-  pub rested_append : (p : ℤ → Bool) (es fs : List Entry) → IsRested known p es → IsRested known (falsified p es) fs → IsRested known p (es ++ fs)
-  rested_append p [] fs t u = u
-  rested_append p (e ∷ es) fs t u = (t.0, rested_append (also p (neg_ℤ e.lit)) es fs t.1 u)
-
-  -- only a decision has to be made at rest
-  reasoned : (r : Option ℕ) (p : ℤ → Bool) → r ≢ None → RestedAt known r p
-  reasoned None p n = absurd (n refl)
-  reasoned (Some k) p n = tt
-
-  pub reasoned_rested : (p : ℤ → Bool) (es : List Entry) → All (λ e. e.reason ≢ None) es → IsRested known p es
-  reasoned_rested p [] a = tt
-  reasoned_rested p (e ∷ es) a = (reasoned e.reason p (All-head (λ (x : Entry). x.reason ≢ None) e es a), reasoned_rested (also p (neg_ℤ e.lit)) es (All-tail (λ (x : Entry). x.reason ≢ None) e es a))
-
 -- an entry that is a decision, and one that isn't
-pub negated_decision : (es : List Entry) (i : ℕ) (e : Entry) (clause : List ℤ) → i < length es → e ≡ get_or es i e → e.reason ≡ None → clause ≡ negated_decisions (take i es) → clause ++ neg_ℤ e.lit ∷ [] ≡ negated_decisions (take (i + 1) es)
-negated_decision es i e clause w is none so =
-    ap (λ c. c ++ neg_ℤ e.lit ∷ []) so
-    ∙ sym (negated_more es i e w ∙ (ap (λ (x : Entry). negated_decisions (take i es) ++ if_decision x.reason x.lit []) (sym is) ∙ ap (λ r. negated_decisions (take i es) ++ if_decision r e.lit []) none))
-
-pub negated_kept : (es : List Entry) (i : ℕ) (e : Entry) (n : ℕ) (clause : List ℤ) → i < length es → e ≡ get_or es i e → e.reason ≡ Some n → clause ≡ negated_decisions (take i es) → clause ≡ negated_decisions (take (i + 1) es)
-negated_kept es i e n clause w is some so =
-    so
-    ∙ sym (negated_more es i e w ∙ (ap (λ (x : Entry). negated_decisions (take i es) ++ if_decision x.reason x.lit []) (sym is) ∙ (ap (λ r. negated_decisions (take i es) ++ if_decision r e.lit []) some ∙ append-nil (negated_decisions (take i es)))))
-
 pub reasons_given : (es : List Entry) (i : ℕ) (e : Entry) (n : ℕ) (hints : List ℕ) → i < length es → e ≡ get_or es i e → e.reason ≡ Some n → hints ≡ reasons (take i es) [] → hints ++ n ∷ [] ≡ reasons (take (i + 1) es) []
 reasons_given es i e n hints w is some so =
     ap (λ h. h ++ n ∷ []) so
@@ -101,6 +78,3 @@ module _ (known : List (List ℤ)) where
 
   pub grown_trail : (old new : Assigned) → IsTrail known (among []) old.entries → Grows known old new → IsTrail known (among []) new.entries
   grown_trail old new t g = subst (IsTrail known (among [])) (sym g.1) (trail_append known (among []) old.entries g.0 t g.2)
-
-  pub grown_rested : (old new : Assigned) → IsRested known (among []) old.entries → Grows known old new → IsRested known (among []) new.entries
-  grown_rested old new t g = subst (IsRested known (among [])) (sym g.1) (rested_append known (among []) old.entries g.0 t (reasoned_rested known (is_false old) g.0 g.3))

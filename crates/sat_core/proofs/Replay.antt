@@ -1,12 +1,14 @@
--- A trail gives a valid step: its decisions' opposites, by its reasons in order and then the conflict.
-use Rattle.std.proofs.Common.{ℕ, zero, suc, ℤ, pos, negsuc, neg_ℤ, Bool, true, false, not, ◌&&◌, ◌||◌, List, [], ◌∷◌, ◌≡◌, refl, if◌then◌else◌, Option, Some, None, sym, subst, ap, ◌∙◌, true≢false, ◌⊎◌, inl, inr, ⊎_elim, option_and_then, cond}
+-- Units, and what the reasons of a trail lead to.
+use Rattle.std.proofs.Common.{ℕ, zero, suc, ℤ, pos, negsuc, neg_ℤ, Bool, true, false, not, ◌&&◌, ◌||◌, List, [], ◌∷◌, ◌≡◌, ◌≢◌, refl, if◌then◌else◌, Option, Some, None, sym, subst, ap, ◌∙◌, true≢false, ◌⊎◌, inl, inr, ⊎_elim, option_and_then, cond}
 use Rattle.std.specs.List.{find}
+use Rattle.std.proofs.lemmas.List.Elements.{All-head, All-tail}
 use Rattle.std.specs.Ordering.{int_eq}
 use Rattle.std.specs.Cmp.{signed_Decides}
 use Rattle.cnf_core.specs.Validity.{among, also, is_falsified, is_unit, unit_in, unit_of, numbered, if_some, leads}
 use Rattle.sat_core.specs.declared.trail.Entry.{Entry}
-use Rattle.sat_core.specs.Trails.{IsTrail, IsFree, HasReason, falsified}
-use Rattle.sat_core.specs.Learning.{negated_decisions, if_decision, reasons, with_reason}
+use Rattle.sat_core.specs.Trails.{IsTrail, HasReason, falsified}
+use Rattle.sat_core.specs.Learning.{reasons, with_reason}
+use Rattle.sat_core.specs.Starting.{AreForced}
 
 pub and_parts : (a b : Bool) → (a && b) ≡ true → (a ≡ true) × (b ≡ true)
 and_parts true b h = (refl, h)
@@ -31,16 +33,6 @@ or_keep false b c f h = f h
 pub or_none_of : (a b : Bool) → a ≡ false → b ≡ false → (a || b) ≡ false
 or_none_of true b h k = absurd (true≢false h)
 or_none_of false b h k = k
-
-or_swap : (a b c : Bool) → (a || (b || c)) ≡ ((b || a) || c)
-or_swap true true c = refl
-or_swap true false c = refl
-or_swap false true c = refl
-or_swap false false c = refl
-
-or_deep : (a b c : Bool) → (a || (b || c)) ≡ ((a || b) || c)
-or_deep true b c = refl
-or_deep false b c = refl
 
 pub true_or_false : (b : Bool) → (b ≡ true) ⊎ (b ≡ false)
 true_or_false true = inl refl
@@ -104,33 +96,7 @@ unit_found p c l (Some k) e u =
     let v = unit_case (is_unit p c k) k l u in
     (subst (λ x. among c x ≡ true) v.0 (found_among p c k e), subst (λ x. is_falsified (also p x) c ≡ true) v.0 (and_parts _ _ v.1).1)
 
--- a unit stays one where more is false, but neither it nor its opposite
-unit_stays : (p q : ℤ → Bool) (c : List ℤ) (l : ℤ) → Within p q → q l ≡ false → q (neg_ℤ l) ≡ false → unit_of p c ≡ Some l → unit_of q c ≡ Some l
-unit_stays p q c l w f g u =
-    let v = unit_found p c l (find (λ x. not (p x)) c) refl u in
-    unit_here q c l f g v.0 (falsified_under (also p l) (also q l) c (λ k. or_keep (int_eq l k) (p k) (q k) (w k)) v.1)
-
--- q has what p and rr have
-abbrev pub IsJoin : (ℤ → Bool) → (ℤ → Bool) → List ℤ → Type 0
-IsJoin q p rr = (k : ℤ) → q k ≡ (p k || among rr k)
-
-differs : (x y : ℤ) (p : ℤ → Bool) → p x ≡ true → p y ≡ false → int_eq y x ≡ false
-differs x y p t f = ⊎_elim (λ s. absurd (true≢false (sym t ∙ (ap p (sym (same y x s)) ∙ f)))) (λ n. n) (true_or_false (int_eq y x))
-
 module _ (known : List (List ℤ)) where
-  later_decision : (r : Option ℕ) (p : ℤ → Bool) (x l : ℤ) (rr : List ℤ) → IsFree p l → p x ≡ true → (among rr x ≡ false) × (among rr (neg_ℤ x) ≡ false) →
-      (among (if_decision r l rr) x ≡ false) × (among (if_decision r l rr) (neg_ℤ x) ≡ false)
-  later_decision (Some n) p x l rr free t h = h
-  later_decision None p x l rr free t h = (
-    or_none_of _ _ (differs x (neg_ℤ l) p t free.1) h.0,
-    or_none_of _ _ (⊎_elim (λ s. absurd (true≢false (sym t ∙ (ap p (sym (twice x) ∙ (ap neg_ℤ (sym (same (neg_ℤ l) (neg_ℤ x) s)) ∙ twice l)) ∙ free.0)))) (λ n. n) (true_or_false (int_eq (neg_ℤ l) (neg_ℤ x)))) h.1,
-  )
-
-  pub later_free : (es : List Entry) (p : ℤ → Bool) (x : ℤ) → IsTrail known p es → p x ≡ true → (among (negated_decisions es) x ≡ false) × (among (negated_decisions es) (neg_ℤ x) ≡ false)
-  later_free [] p x tr t = (refl, refl)
-  later_free (e ∷ es) p x tr t =
-      later_decision e.reason p x e.lit (negated_decisions es) tr.0 t (later_free es (also p (neg_ℤ e.lit)) x tr.2 (or_right (int_eq (neg_ℤ e.lit) x) (p x) t))
-
   more_than_one : (r : Option ℕ) (ns : List ℕ) → ((g : ℕ) × (hs : List ℕ) × (ns ≡ g ∷ hs)) → (g : ℕ) × (hs : List ℕ) × (with_reason r ns ≡ g ∷ hs)
   more_than_one None ns h = h
   more_than_one (Some n) ns h = (n, ns, refl)
@@ -139,32 +105,21 @@ module _ (known : List (List ℤ)) where
   some_reason [] h = (h, [], refl)
   some_reason (e ∷ es) h = more_than_one e.reason (reasons es (h ∷ [])) (some_reason es h)
 
-  leads_cons : (q : ℤ → Bool) (n : ℕ) (ns : List ℕ) → ((g : ℕ) × (hs : List ℕ) × (ns ≡ g ∷ hs)) →
+  pub leads_cons : (q : ℤ → Bool) (n : ℕ) (ns : List ℕ) → ((g : ℕ) × (hs : List ℕ) × (ns ≡ g ∷ hs)) →
       leads known q (n ∷ ns) ≡ if_some (option_and_then (unit_of q) (numbered known n)) (λ l. leads known (also q (neg_ℤ l)) ns)
   leads_cons q n ns s = subst (λ v. leads known q (n ∷ v) ≡ if_some (option_and_then (unit_of q) (numbered known n)) (λ l. leads known (also q (neg_ℤ l)) v)) (sym s.2) refl
 
-  one_entry : (r : Option ℕ) (l : ℤ) (p q : ℤ → Bool) (rr : List ℤ) (ns : List ℕ) → IsFree p l → HasReason known p l r → IsJoin q p (if_decision r l rr) →
-      (among rr (neg_ℤ l) ≡ false) × (among rr l ≡ false) → ((g : ℕ) × (hs : List ℕ) × (ns ≡ g ∷ hs)) →
-      ((k : ℤ → Bool) → IsJoin k (also p (neg_ℤ l)) rr → leads known k ns ≡ true) → leads known q (with_reason r ns) ≡ true
-  one_entry None l p q rr ns free reason join later s go = go q (λ k. join k ∙ or_swap (p k) (int_eq (neg_ℤ l) k) (among rr k))
-  one_entry (Some n) l p q rr ns free reason join later s go =
-      let up : Within p q = λ k t. join k ∙ or_left (p k) (among rr k) t in
-      let fl : q l ≡ false = join l ∙ or_none_of _ _ free.0 later.1 in
-      let fo : q (neg_ℤ l) ≡ false = join (neg_ℤ l) ∙ or_none_of _ _ free.1 later.0 in
-      let u : option_and_then (unit_of q) (numbered known n) ≡ Some l = ap (option_and_then (unit_of q)) reason.1 ∙ unit_stays p q reason.0 l up fl fo reason.2 in
-      leads_cons q n ns s
-      ∙ (ap (λ (o : Option ℤ). if_some o (λ k. leads known (also q (neg_ℤ k)) ns)) u
-      ∙ go (also q (neg_ℤ l)) (λ k. ap (λ b. int_eq (neg_ℤ l) k || b) (join k) ∙ or_deep (int_eq (neg_ℤ l) k) (p k) (among rr k)))
+  one_entry : (r : Option ℕ) (l : ℤ) (p : ℤ → Bool) (ns : List ℕ) → r ≢ None → HasReason known p l r → ((g : ℕ) × (hs : List ℕ) × (ns ≡ g ∷ hs)) → leads known (also p (neg_ℤ l)) ns ≡ true → leads known p (with_reason r ns) ≡ true
+  one_entry None l p ns some reason s go = absurd (some refl)
+  one_entry (Some n) l p ns some reason s go =
+      let u : option_and_then (unit_of p) (numbered known n) ≡ Some l = ap (option_and_then (unit_of p)) reason.1 ∙ reason.2 in
+      leads_cons p n ns s
+      ∙ (ap (λ (o : Option ℤ). if_some o (λ k. leads known (also p (neg_ℤ k)) ns)) u
+      ∙ go)
 
-  replay : (es : List Entry) (p q : ℤ → Bool) (c : List ℤ) (h : ℕ) → IsTrail known p es → IsJoin q p (negated_decisions es) → numbered known h ≡ Some c → is_falsified (falsified p es) c ≡ true →
-      leads known q (reasons es (h ∷ [])) ≡ true
-  replay [] p q c h tr join e all = ap (λ (o : Option (List ℤ)). if_some o (is_falsified q)) e ∙ falsified_under p q c (λ k t. join k ∙ or_left (p k) false t) all
-  replay (x ∷ es) p q c h tr join e all =
-      let free = later_free es (also p (neg_ℤ x.lit)) (neg_ℤ x.lit) tr.2 (or_left (int_eq (neg_ℤ x.lit) (neg_ℤ x.lit)) (p (neg_ℤ x.lit)) (itself (neg_ℤ x.lit))) in
-      one_entry x.reason x.lit p q (negated_decisions es) (reasons es (h ∷ [])) tr.0 tr.1 join (free.0, ap (among (negated_decisions es)) (sym (twice x.lit)) ∙ free.1) (some_reason es h)
-      (λ k j. replay es (also p (neg_ℤ x.lit)) k c h tr.2 j e all)
-
-  -- with nothing assumed before: the learnt clause is the opposites of the decisions
-  pub learnt_leads : (es : List Entry) (c : List ℤ) (h : ℕ) → IsTrail known (among []) es → numbered known h ≡ Some c → is_falsified (falsified (among []) es) c ≡ true →
-      leads known (among (negated_decisions es)) (reasons es (h ∷ [])) ≡ true
-  learnt_leads es c h tr e all = replay es (among []) (among (negated_decisions es)) c h tr (λ k. refl) e all
+  -- the reasons of a trail with no decision lead to its conflict
+  pub forced_leads : (es : List Entry) (p : ℤ → Bool) (c : List ℤ) (h : ℕ) → IsTrail known p es → AreForced es → numbered known h ≡ Some c → is_falsified (falsified p es) c ≡ true → leads known p (reasons es (h ∷ [])) ≡ true
+  forced_leads [] p c h tr forced e all = ap (λ (o : Option (List ℤ)). if_some o (is_falsified p)) e ∙ all
+  forced_leads (x ∷ es) p c h tr forced e all =
+      one_entry x.reason x.lit p (reasons es (h ∷ [])) (All-head (λ (y : Entry). y.reason ≢ None) x es forced) tr.1 (some_reason es h)
+      (forced_leads es (also p (neg_ℤ x.lit)) c h tr.2 (All-tail (λ (y : Entry). y.reason ≢ None) x es forced) e all)

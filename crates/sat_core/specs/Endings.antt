@@ -4,8 +4,8 @@ use Rattle.cnf_core.specs.declared.clauses.Cnf.{Cnf}
 use Rattle.cnf_core.specs.declared.clauses.ProofStep.{ProofStep}
 use Rattle.cnf_core.specs.declared.clauses.Derivation.{Derivation}
 use Rattle.cnf_core.specs.Derivations.{StepsWithin, Refutes, AllValid, AllFresh, known_with}
-use Rattle.sat_core.specs.declared.solving.Ending.{Ending}
-use Rattle.sat_core.specs.declared.solving.Ending.TheVariants.{Total, Refuted, Spent}
+use Rattle.sat_core.specs.declared.searching.Ending.{Ending}
+use Rattle.sat_core.specs.declared.searching.Ending.TheVariants.{Total, Refuted, Spent}
 use Rattle.sat_core.specs.Answers.{EndsEmpty}
 use Rattle.sat_core.specs.Trails.{Assigned, is_false, IsTotal}
 use Rattle.sat_core.specs.Rest.{IsRest}

@@ -1,7 +1,13 @@
 pub mod Values
 pub mod Trails
 pub mod Kept
+pub mod Watching
+pub mod States
+pub mod Starting
+pub mod Cuts
+pub mod Taking
 pub mod Rest
 pub mod Learning
 pub mod Answers
 pub mod Endings
+pub mod Searches

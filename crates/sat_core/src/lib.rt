@@ -2,10 +2,19 @@
 //! budget of steps on new clauses.
 #![tactic(auto)]
 
+mod cutting;
+mod finding;
 mod learning;
 mod propagating;
-mod scanning;
+mod scores;
+mod searching;
+mod slots;
 mod solving;
+mod starting;
+mod taking;
+mod teaching;
+mod touched;
 mod trail;
+mod watching;
 
 pub use solving::{Answer, solve};

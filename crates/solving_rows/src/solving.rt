@@ -232,9 +232,9 @@ fn next(state: &mut u64) -> u64 {
     *state >> 33
 }
 
-/// A literal of one of five variables.
-fn any_literal(state: &mut u64) -> i64 {
-    let variable = (next(state) % 5) as i64 + 1;
+/// A literal of one of so many variables.
+fn any_literal(variables: u32, state: &mut u64) -> i64 {
+    let variable = i64::from((next(state) % u64::from(variables.max(1))) as u32) + 1;
     if next(state) % 2 == 0 {
         variable
     } else {
@@ -242,13 +242,16 @@ fn any_literal(state: &mut u64) -> i64 {
     }
 }
 
+/// How many problems there are of each size.
+const PROBLEMS: u32 = 49;
+
 /// Clauses of up to three literals over five variables.
 fn any_clauses(alloc: Global, count: u64, state: &mut u64) -> Result<Cnf, Fail> {
     let mut clauses = Items::new(alloc);
     for _ in 0..count {
         let mut clause = Items::new(alloc);
         for _ in 0..next(state) % 3 + 1 {
-            push_lit(&mut clause, any_literal(state))?;
+            push_lit(&mut clause, any_literal(5, state))?;
         }
         clauses.push(clause)?;
     }
@@ -272,6 +275,40 @@ fn wrong_clauses(alloc: Global) -> Result<Option<u64>, Fail> {
     Ok(None)
 }
 
+/// Clauses of three literals, 426 for 100 variables, so that about half of the problems have a model.
+fn three_literals(alloc: Global, variables: u32, state: &mut u64) -> Result<Cnf, Fail> {
+    let mut clauses = Items::new(alloc);
+    for _ in 0..u64::from(variables) * 426 / 100 {
+        let first = any_literal(variables, state);
+        let second = any_literal(variables, state);
+        let third = any_literal(variables, state);
+        push_clause(&mut clauses, alloc, &[first, second, third])?;
+    }
+    Ok(Cnf {
+        variables: u64::from(variables),
+        clauses,
+    })
+}
+
+/// The first number of variables for which not both answers are found, on problems whose answers are
+/// judged by the clauses or by the checker.
+fn one_sided(alloc: Global) -> Result<Option<u32>, Fail> {
+    let mut state = 3;
+    for variables in 20..61 {
+        let mut refuted = 0u32;
+        for _ in 0..PROBLEMS {
+            let cnf = three_literals(alloc, variables, &mut state)?;
+            if is_refuted(alloc, &cnf)? {
+                refuted = refuted.wrapping_add(1);
+            }
+        }
+        if refuted == 0 || refuted >= PROBLEMS {
+            return Ok(Some(variables));
+        }
+    }
+    Ok(None)
+}
+
 #[test]
 fn answers(rt: HostRuntime) -> Result<(), Fail> {
     assert_eq!(rt; wrong_case(rt.alloc())?, None);
@@ -282,7 +319,7 @@ fn answers(rt: HostRuntime) -> Result<(), Fail> {
 #[test]
 fn families(rt: HostRuntime) -> Result<(), Fail> {
     let alloc = rt.alloc();
-    for found in [wrong_pigeons(alloc)?, wrong_ring(alloc)?] {
+    for found in [wrong_pigeons(alloc)?, wrong_ring(alloc)?, one_sided(alloc)?] {
         assert_eq!(rt; found, None);
     }
     Ok(())

@@ -1,46 +1,74 @@
-use Rattle.std.proofs.Common.{ℤ, Bool, ◌<◌, sym, subst, ◌∙◌}
-use Rattle.std.specs.List.{All}
-use Rattle.cnf_core.specs.Literals.{Names}
+use Rattle.std.proofs.Common.{[], take, slice_get, List, sym, ap, ◌∙◌}
+use Rattle.cnf_core.specs.Validity.{among}
 use Rattle.cnf_core.specs.Derivations.{known_with}
-use Rattle.sat_core.specs.Trails.{is_false}
-use Rattle.sat_core.proofs.Known.{known_names, at_number}
-use Rattle.sat_core.proofs.Units.{unit_named, unit_free}
-use Rattle.sat_core.proofs.Growing.{pushed, grows_more}
-use Rattle.sat_core.proofs.Room.{room, room_taken}
+use Rattle.sat_core.specs.declared.trail.Entry.{Entry}
+use Rattle.sat_core.specs.Trails.{falsified}
+use Rattle.sat_core.proofs.Falls.{grows_both}
+use Rattle.sat_core.proofs.Settling.{any_literal, at_end, literal_named, literal_falls, stopped, seen_next, next_low, smaller_left}
+use Rattle.sat_core.proofs.Answered.{when_some, when_none}
 use Rattle.sat_core.proofs.propagating.propagate.Goals as goal
 
-pub push-requires-clause-named : goal.push-requires-clause-named
-push-requires-clause-named c =
-    let most = c.args.cnf.now.variables in
-    let unit = c.in-Forced.ensures in
-    let known = known_with c.args.cnf.now c.args.steps.now in
-    subst (λ n. Names n c.in-Forced.lit) (sym (c.loop-number.invariant.same ∙ c.requires.trail))
-    (unit_named most (is_false c.loop-number.trail) unit.0 c.in-Forced.lit
-    (at_number (All (Names most)) known c.in-Forced.number unit.0 (known_names c.args.cnf.now c.args.steps.now c.requires.cnf c.requires.steps) unit.1)
-    unit.2)
+pub returns-in-None : goal.returns-in-None
+returns-in-None c =
+    let i = c.loop-entry.invariant in
+    at_end (known_with c.args.cnf.now c.args.steps.now) c.loop-entry.watches c.args.trail.now c.loop-entry.trail c.loop-entry.next i.standing i.guarded
+    (ap (λ (es : List Entry). slice_get es c.loop-entry.next) (sym c.entries.ensures.value) ∙ sym c.in-None.ensures) i.grows i.same
 
-pub push-requires-clause-free : goal.push-requires-clause-free
-push-requires-clause-free c = let unit = c.in-Forced.ensures in unit_free (is_false c.loop-number.trail) unit.0 c.in-Forced.lit unit.2
-
-pub loop-number-smaller : goal.loop-number-smaller
-loop-number-smaller c =
-    let most = c.args.cnf.now.variables in
-    let unit = c.in-Forced.ensures in
+pub falsify-requires-clause-named : goal.falsify-requires-clause-named
+falsify-requires-clause-named c =
     let known = known_with c.args.cnf.now c.args.steps.now in
-    subst (λ (p : ℤ → Bool). room most p < room most (is_false c.loop-number.trail))
-    (sym (pushed c.loop-number.trail c.push.new.self _ c.in_ok-push-in-Forced.ensures.ok))
-    (room_taken most (is_false c.loop-number.trail) c.in-Forced.lit
-    (unit_named most (is_false c.loop-number.trail) unit.0 c.in-Forced.lit
-    (at_number (All (Names most)) known c.in-Forced.number unit.0 (known_names c.args.cnf.now c.args.steps.now c.requires.cnf c.requires.steps) unit.1)
-    unit.2)
-    (unit_free (is_false c.loop-number.trail) unit.0 c.in-Forced.lit unit.2))
+    let at = ap (λ (es : List Entry). slice_get es c.loop-entry.next) (sym c.entries.ensures.value) ∙ sym c.in-Some.ensures in
+    literal_named known c.loop-entry.watches c.loop-entry.trail c.loop-entry.invariant.standing c.loop-entry.next c.in-Some.entry.now at c.opposite-lit.result c.opposite-lit.ensures
 
-pub loop-number-preserved : goal.loop-number-preserved
-loop-number-preserved c =
+pub falsify-requires-clause-falls : goal.falsify-requires-clause-falls
+falsify-requires-clause-falls c =
     let known = known_with c.args.cnf.now c.args.steps.now in
-    let unit = c.in-Forced.ensures in
+    let at = ap (λ (es : List Entry). slice_get es c.loop-entry.next) (sym c.entries.ensures.value) ∙ sym c.in-Some.ensures in (
+      falsified (among []) (take c.loop-entry.next c.loop-entry.trail.entries),
+      literal_falls known c.loop-entry.watches c.loop-entry.trail c.loop-entry.invariant.standing c.loop-entry.next c.in-Some.entry.now at c.opposite-lit.result c.opposite-lit.ensures c.loop-entry.invariant.guarded,
+    )
+
+pub returns-in-Some-2 : goal.returns-in-Some-2
+returns-in-Some-2 c =
+    let known = known_with c.args.cnf.now c.args.steps.now in
+    let i = c.loop-entry.invariant in
+    let at = ap (λ (es : List Entry). slice_get es c.loop-entry.next) (sym c.entries.ensures.value) ∙ sym c.in-Some.ensures in
+    let w = c.loop-entry.watches in
+    let a = c.loop-entry.trail in
+    let e = c.in-Some.entry.now in
+    let l = c.opposite-lit.result in
+    stopped known w a i.standing c.loop-entry.next e at l c.opposite-lit.ensures c.args.trail.now c.falsify.new.trail c.falsify.new.watches c.in-Some-2.number i.grows i.same
+    (when_some c.in_ok-number.field-0 c.in-Some-2.number _ _ c.in-Some-2.is
+    (c.in_ok-number.ensures (falsified (among []) (take c.loop-entry.next a.entries)) (literal_falls known w a i.standing c.loop-entry.next e at l c.opposite-lit.ensures i.guarded)))
+
+pub loop-entry-smaller : goal.loop-entry-smaller
+loop-entry-smaller c =
+    let known = known_with c.args.cnf.now c.args.steps.now in
+    let i = c.loop-entry.invariant in
+    let at = ap (λ (es : List Entry). slice_get es c.loop-entry.next) (sym c.entries.ensures.value) ∙ sym c.in-Some.ensures in
+    let w = c.loop-entry.watches in
+    let a = c.loop-entry.trail in
+    let e = c.in-Some.entry.now in
+    let l = c.opposite-lit.result in
+    let r = when_none c.in_ok-number.field-0 _ _ c.in-None-2.is
+    (c.in_ok-number.ensures (falsified (among []) (take c.loop-entry.next a.entries)) (literal_falls known w a i.standing c.loop-entry.next e at l c.opposite-lit.ensures i.guarded)) in
+    smaller_left known w a i.standing c.loop-entry.next e at l c.opposite-lit.ensures c.falsify.new.trail r.same
+
+pub loop-entry-preserved : goal.loop-entry-preserved
+loop-entry-preserved c =
+    let known = known_with c.args.cnf.now c.args.steps.now in
+    let i = c.loop-entry.invariant in
+    let at = ap (λ (es : List Entry). slice_get es c.loop-entry.next) (sym c.entries.ensures.value) ∙ sym c.in-Some.ensures in
+    let w = c.loop-entry.watches in
+    let a = c.loop-entry.trail in
+    let e = c.in-Some.entry.now in
+    let l = c.opposite-lit.result in
+    let r = when_none c.in_ok-number.field-0 _ _ c.in-None-2.is
+    (c.in_ok-number.ensures (falsified (among []) (take c.loop-entry.next a.entries)) (literal_falls known w a i.standing c.loop-entry.next e at l c.opposite-lit.ensures i.guarded)) in
     record {
-      grows = grows_more known c.args.trail.now c.loop-number.trail c.push.new.self _ c.loop-number.invariant.grows c.in_ok-push-in-Forced.ensures.ok
-          (unit_free (is_false c.loop-number.trail) unit.0 c.in-Forced.lit unit.2) unit (λ e. cc);
-      same = c.in_ok-push-in-Forced.ensures.same ∙ c.loop-number.invariant.same;
+      standing = any_literal known l _ c.falsify.new.watches c.falsify.new.trail r.standing;
+      guarded = seen_next known w a i.standing c.loop-entry.next e at l c.opposite-lit.ensures c.falsify.new.watches c.falsify.new.trail r;
+      low = next_low known w a i.standing c.loop-entry.next e at c.falsify.new.trail r.grows;
+      grows = grows_both known c.args.trail.now a c.falsify.new.trail i.grows r.grows;
+      same = r.same ∙ i.same;
     }
