@@ -77,7 +77,9 @@ fn has_values(alloc: Global) -> Result<bool, NoMemory> {
     }
     let first = Units::from_bytes(alloc, b"a")?;
     let other = Units::from_bytes(alloc, b"c")?;
-    Ok(heap.get(id, &first).copied() == Some(2) && heap.get(id, &other).copied() == None)
+    let holds = heap.get(id, &first).copied() == Some(2) && heap.get(id, &other).copied() == None;
+    drop(heap);
+    Ok(holds)
 }
 
 /// Items from both ends.
@@ -90,14 +92,10 @@ fn has_items(alloc: Global) -> Result<bool, NoMemory> {
     heap.set_item(id, 1, 5);
     let first = heap.shift_item(id);
     let last = heap.pop_item(id);
-    Ok(
-        first == Some(7)
-            && last == Some(9)
-            && heap.items(id) == 1
-            && heap.item(id, 0).copied() == Some(5)
-            && heap.item(id, 1).copied() == None
-            && matches!(heap.class(id), Class::Array),
-    )
+    let rest = [heap.item(id, 0).copied(), heap.item(id, 1).copied()];
+    let is_array = matches!(heap.class(id), Class::Array);
+    drop(heap);
+    Ok(is_array && [first, last] == [Some(7), Some(9)] && rest == [Some(5), None])
 }
 
 /// A cell has no value before its initialisation.

@@ -184,17 +184,20 @@ fn bare(alloc: Global, text: &str) -> Result<Shadow, NoMemory>
     Ok(Shadow { plain, term: None })
 }
 
-fn is_content(alloc: Global, found: &Plain, wanted: &str) -> Result<bool, NoMemory> {
-    let wanted = content(alloc, wanted)?;
-    Ok(match (found, &wanted) {
-        (Plain::Undefined, Plain::Undefined) => true,
-        (Plain::Null, Plain::Null) => true,
-        (Plain::NotNumber, Plain::NotNumber) => true,
-        (Plain::Bool(x), Plain::Bool(y)) => *x == *y,
-        (Plain::Int(m), Plain::Int(n)) => *m == *n,
-        (Plain::Text(s), Plain::Text(t)) => s.units().equals(t.units()),
-        _ => false,
-    })
+/// Whether the content is the one that a text of the tables stands for.
+fn is_content(found: &Plain, wanted: &str) -> bool {
+    match found {
+        Plain::Undefined => wanted == "undefined",
+        Plain::Null => wanted == "null",
+        Plain::Bool(holds) => wanted == if *holds { "true" } else { "false" },
+        Plain::NotNumber => wanted == "NaN",
+        Plain::Int(n) => wanted.parse::<i64>() == Ok(*n),
+        Plain::Text(text) => match wanted.as_bytes() {
+            [b'\'', inside @ .., b'\''] => text.units().equals_bytes(inside),
+            _ => false,
+        },
+        Plain::Object(_) => wanted == "object",
+    }
 }
 
 fn reason(why: Why) -> &'static str {
@@ -208,16 +211,16 @@ fn reason(why: Why) -> &'static str {
 }
 
 /// Whether the answer shows so many guards and has the wanted value or end.
-fn is_answer(alloc: Global, found: Outcome, guards: usize, wanted: &str) -> Result<bool, NoMemory> {
+fn is_answer(found: &Outcome, guards: usize, wanted: &str) -> bool {
     match found {
         Outcome::Value { moves, value } => {
-            Ok(moves.len() == guards && is_content(alloc, &value.plain, wanted)?)
+            moves.len() == guards && is_content(&value.plain, wanted)
         }
-        Outcome::Stop { moves, exit, .. } => Ok(match exit {
-            End::Left { why, .. } => moves.len() == guards && reason(why) == wanted,
+        Outcome::Stop { moves, exit, .. } => match exit {
+            End::Left { why, .. } => moves.len() == guards && reason(*why) == wanted,
             _ => false,
-        }),
-        Outcome::Raise { .. } => Ok(false),
+        },
+        Outcome::Raise { .. } => false,
     }
 }
 
@@ -234,59 +237,105 @@ fn table(alloc: Global) -> Result<Table, NoMemory> {
     Table::new(alloc, &bounds)
 }
 
+fn is_binary(
+    alloc: Global,
+    table: &mut Table,
+    op: BinaryOp,
+    sides: (&str, &str),
+    guards: usize,
+    wanted: &str,
+) -> Result<bool, NoMemory> {
+    let x = bare(alloc, sides.0)?;
+    let y = bare(alloc, sides.1)?;
+    let found = binary(alloc, table, 0, op, &x, &y)?;
+    let holds = is_answer(&found, guards, wanted);
+    drop(found);
+    Ok(holds)
+}
+
 fn wrong_binary(alloc: Global) -> Result<Option<usize>, NoMemory> {
     let mut table = table(alloc)?;
     for (row, (op, x, y, guards, wanted)) in BINARY.iter().enumerate() {
-        let x = bare(alloc, x)?;
-        let y = bare(alloc, y)?;
-        let found = binary(alloc, &mut table, 0, *op, &x, &y)?;
-        if !is_answer(alloc, found, *guards, wanted)? {
+        if !is_binary(alloc, &mut table, *op, (x, y), *guards, wanted)? {
             return Ok(Some(row));
         }
     }
     Ok(None)
+}
+
+fn is_unary(
+    alloc: Global,
+    table: &mut Table,
+    op: UnaryOp,
+    x: &str,
+    wanted: &str,
+) -> Result<bool, NoMemory> {
+    let x = bare(alloc, x)?;
+    if matches!((op, &x.plain), (UnaryOp::TypeOf, Plain::Object(_))) {
+        return Ok(false);
+    }
+    let found = unary(alloc, table, 0, op, &x)?;
+    let holds = is_answer(&found, 0, wanted);
+    drop(found);
+    Ok(holds)
 }
 
 fn wrong_unary(alloc: Global) -> Result<Option<usize>, NoMemory> {
     let mut table = table(alloc)?;
     for (row, (op, x, wanted)) in UNARY.iter().enumerate() {
-        let x = bare(alloc, x)?;
-        if matches!((*op, &x.plain), (UnaryOp::TypeOf, Plain::Object(_))) {
-            return Ok(Some(row));
-        }
-        let found = unary(alloc, &mut table, 0, *op, &x)?;
-        if !is_answer(alloc, found, 0, wanted)? {
+        if !is_unary(alloc, &mut table, *op, x, wanted)? {
             return Ok(Some(row));
         }
     }
     Ok(None)
+}
+
+fn is_step(
+    alloc: Global,
+    table: &mut Table,
+    op: StepOp,
+    x: &str,
+    wanted: &str,
+) -> Result<bool, NoMemory> {
+    let guards = match wanted {
+        "range" | "convert" => 0,
+        _ => 1,
+    };
+    let x = bare(alloc, x)?;
+    let found = step(alloc, table, 0, op, &x)?;
+    let holds = is_answer(&found, guards, wanted);
+    drop(found);
+    Ok(holds)
 }
 
 fn wrong_step(alloc: Global) -> Result<Option<usize>, NoMemory> {
     let mut table = table(alloc)?;
     for (row, (op, x, wanted)) in STEPS.iter().enumerate() {
-        let x = bare(alloc, x)?;
-        let guards = match *wanted {
-            "range" | "convert" => 0,
-            _ => 1,
-        };
-        let found = step(alloc, &mut table, 0, *op, &x)?;
-        if !is_answer(alloc, found, guards, wanted)? {
+        if !is_step(alloc, &mut table, *op, x, wanted)? {
             return Ok(Some(row));
         }
     }
     Ok(None)
 }
 
+fn is_flag(alloc: Global, table: &mut Table, x: &str, holds: bool) -> Result<bool, NoMemory> {
+    let x = bare(alloc, x)?;
+    let flag = to_flag(alloc, table, &x)?;
+    Ok(is_content(&flag.plain, if holds { "true" } else { "false" }))
+}
+
+fn is_text(alloc: Global, table: &mut Table, x: &str, wanted: &str) -> Result<bool, NoMemory> {
+    let x = bare(alloc, x)?;
+    let text = to_text(alloc, table, 0, &x)?;
+    let holds = is_answer(&text, 0, wanted);
+    drop(text);
+    Ok(holds)
+}
+
 fn wrong_conversion(alloc: Global) -> Result<Option<usize>, NoMemory> {
     let mut table = table(alloc)?;
     for (row, (x, holds, wanted)) in CONVERTED.iter().enumerate() {
-        let x = bare(alloc, x)?;
-        let flag = to_flag(alloc, &mut table, &x)?;
-        let text = to_text(alloc, &mut table, 0, &x)?;
-        if !matches!(flag.plain, Plain::Bool(found) if found == *holds)
-            || !is_answer(alloc, text, 0, wanted)?
-        {
+        if !is_flag(alloc, &mut table, x, *holds)? || !is_text(alloc, &mut table, x, wanted)? {
             return Ok(Some(row));
         }
     }
