@@ -8,7 +8,7 @@ use Rattle.path_core.specs.declared.path.End.TheVariants.{Cut}
 use Rattle.re_ast.specs.declared.patterns.Pattern.{Pattern}
 use Rattle.re_ast.specs.Execution.{Match, exec}
 use Rattle.js_meaning.specs.Values.{Text, Value, truth, text, Scope, Class, Object, Answers, Place, undefined, nan, int, object}
-use Rattle.js_meaning.specs.Running.{passed, made, given, stops, gives, ends, Outcome, done, count, turn, new_object, play, leaving, stamped, next_exec}
+use Rattle.js_meaning.specs.Running.{passed, made, given, stops, gives, ends, Outcome, done, count, turn, new_object, play, leaving, stamped, match_from, next_exec}
 use Rattle.js_meaning.specs.Names.{open_cell}
 use Rattle.js_values.specs.OwnKeys.{own_keys}
 use Rattle.js_meaning.specs.Objects.{object_at, add_item, with_item, no_room}
@@ -105,12 +105,18 @@ answered_match : (st : Place) (p : Pattern) (t : Text) (from : ℕ) (m : Match) 
 answered_match st p t from m rest e z = rw (e, z) refl
 
 by_the_standard : (st : Place) (p : Pattern) (t : Text) (from : ℕ) (rest : Answers) → st.run.answers ≡ None ∷ rest →
-    st.execs ≡ 0 → next_exec st p t from ≡ exec p t from
+    st.execs ≡ 0 → next_exec st p t from ≡ match_from p t from
 by_the_standard st p t from rest e z = rw (e, z) refl
 
 behind_the_list : (st : Place) (p : Pattern) (t : Text) (from : ℕ) → st.run.answers ≡ [] →
-    next_exec st p t from ≡ exec p t from
+    next_exec st p t from ≡ match_from p t from
 behind_the_list st p t from e = rw e refl
+
+within_the_text : (p : Pattern) → match_from p (codes "ab") 2 ≡ exec p (codes "ab") 2
+within_the_text p = refl
+
+behind_the_text : (p : Pattern) → match_from p (codes "ab") 3 ≡ None
+behind_the_text p = refl
 
 -- ---- conversions
 

@@ -3,6 +3,7 @@ use Rattle.std.proofs.Common.{◌≡◌, true, false, List, [], ◌∷◌, codes
 use Rattle.std.specs.Fmt.{digits}
 use Rattle.path_core.specs.declared.path.Why.TheVariants as why
 use Rattle.path_core.specs.declared.path.End.TheVariants.{Left}
+use Rattle.js_ast.specs.declared.operators.BinaryOp.TheVariants.{Add}
 use Rattle.js_ast.specs.declared.operators.StepOp.TheVariants.{Increment}
 use Rattle.js_ast.specs.declared.operators.LogicalOp.TheVariants as logic
 use Rattle.js_ast.specs.declared.operators.DeclarationKind.TheVariants.{Let}
@@ -229,3 +230,21 @@ pattern_method_of_text_script = (express 0 (call (leaf (Expr-F.Text 0 (codes "a"
 pattern_method_of_text : goes 10 [] [] pattern_method_of_text_script ≡ ([], Left 3 why.Builtin 0 0)
 unfolding count turn new_object call_builtin construct get_row bracket_row set_row test_row logical_row binary_row unary_row step_row open_cell init_name find_name read_name put_name digits
 pattern_method_of_text = path_is 10 [] [] pattern_method_of_text_script refl
+
+-- "a"["charAt"] += zz; which is read before its right side
+abbrev method_read_and_written_script : List KnownStmt
+method_read_and_written_script = (express 0 (assign 0 14 (Some Add) (to_property (leaf (Expr-F.Text 0 (codes "a"))) (bracket 3 true
+    (leaf (Expr-F.Text 4 (codes "charAt"))))) (leaf (Expr-F.Name (named 17 (codes "zz"))))) ∷ [])
+
+method_read_and_written : goes 10 [] [] method_read_and_written_script ≡ ([], Left 3 why.Builtin 0 0)
+unfolding count turn new_object call_builtin construct get_row bracket_row set_row test_row logical_row binary_row unary_row step_row open_cell init_name find_name read_name put_name digits
+method_read_and_written = path_is 10 [] [] method_read_and_written_script refl
+
+-- "a"["charAt"] = zz; which isn't read
+abbrev method_written_script : List KnownStmt
+method_written_script = (express 0 (assign 0 14 None (to_property (leaf (Expr-F.Text 0 (codes "a"))) (bracket 3 true
+    (leaf (Expr-F.Text 4 (codes "charAt"))))) (leaf (Expr-F.Name (named 16 (codes "zz"))))) ∷ [])
+
+method_written : goes 10 [] [] method_written_script ≡ ([], Left 3 why.Key 0 0)
+unfolding count turn new_object call_builtin construct get_row bracket_row set_row test_row logical_row binary_row unary_row step_row open_cell init_name find_name read_name put_name digits
+method_written = path_is 10 [] [] method_written_script refl

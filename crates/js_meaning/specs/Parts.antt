@@ -132,7 +132,7 @@ chain run (suffix.Call site arguments ∷ ss) calls k scope r st =
 -- ---- targets (13.15.1, simple assignment targets)
 
 -- what a target has come to (6.2.5, the Reference Record): a name at its site; a value and a static key; a value and a key in
--- brackets, which leaves the profile so far
+-- brackets
 pub data Aim : Type 0 where
   name_aim : ℕ → Text → Aim
   property_aim : ℕ → Value → Text → Aim
@@ -143,9 +143,8 @@ abbrev pub aim_property : ℕ → Text → Reference → Place → (Aim → Plac
 aim_property site name (callee x this) st go = go (property_aim site x name) st
 aim_property site name r st go = leaves site why.Builtin st
 
--- a property in brackets leaves it as soon as its key has a value
 abbrev pub aim_bracket : ℕ → Bool → Reference → Value → Place → (Aim → Place → Outcome) → Outcome
-aim_bracket site is_static (callee x this) y st go = leaves site why.Key st
+aim_bracket site is_static (callee x this) y st go = go (bracket_aim site is_static x y) st
 aim_bracket site is_static r y st go = leaves site why.Builtin st
 
 abbrev pub aim_access : {E : Type 0} → (E → Meaning) → Access E → Calls → ℕ → Scope → (Aim → Place → Outcome) →
@@ -177,8 +176,10 @@ put_aim scope (bracket_aim site is_static base y) x st = set_bracket site is_sta
 
 -- ---- assignment (13.15.2)
 
--- behind the target of `=`: the right side, then the write
+-- behind the target of `=`: the right side, then the write; a property in brackets leaves the profile before the right side,
+-- so far
 abbrev pub plain_assign : Meaning → Calls → ℕ → Scope → Aim → Place → Outcome
+plain_assign value calls k scope (bracket_aim site is_static base y) st = leaves site why.Key st
 plain_assign value calls k scope a st = bind (value calls k scope st) (on_value (put_aim scope a))
 
 -- behind the target of an operator and `=`: it is read, then the right side, the operator and the write

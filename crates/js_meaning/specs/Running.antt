@@ -1,5 +1,5 @@
 -- What a run is made of: the items that it shows on its way, the place that it has come to, and how a part ended.
-use Rattle.std.specs.Prelude.{ℕ, zero, suc, ◌+◌, ◌-◌, Bool, true, false, nat_lt, length, if◌then◌else◌, List, [], ◌∷◌, ◌++◌, Option, Some, None, slice_get}
+use Rattle.std.specs.Prelude.{ℕ, zero, suc, ◌+◌, ◌-◌, Bool, true, false, nat_lt, nat_le, length, if◌then◌else◌, List, [], ◌∷◌, ◌++◌, Option, Some, None, slice_get}
 use Rattle.path_core.specs.declared.path.Event.{Event}
 use Rattle.path_core.specs.declared.path.Event.TheVariants as event
 use Rattle.path_core.specs.declared.path.ErrorName.{ErrorName}
@@ -154,9 +154,13 @@ answered (Some (Some m)) standard = m
 answered (Some None) standard = standard
 answered None standard = standard
 
+-- the standard's match (22.2.7.2, RegExpBuiltinExec): none from a place behind the text
+abbrev pub match_from : Pattern → Text → ℕ → Option Match
+match_from p t from = if nat_le from (length t) then exec p t from else None
+
 -- the next exec of a run, of a pattern on a text from a place on: by the answer that stands for it, else by the standard
 abbrev pub next_exec : Place → Pattern → Text → ℕ → Option Match
-next_exec st p t from = answered (slice_get st.run.answers st.execs) (exec p t from)
+next_exec st p t from = answered (slice_get st.run.answers st.execs) (match_from p t from)
 
 -- ---- rows are played
 
