@@ -1,17 +1,17 @@
 //! Derivations with the checker's verdicts.
 
-use crate::clauses::{SQUARE, cnf_of, push_clause, push_step, verdict};
-use cnf_core::{Cnf, Derivation};
+use crate::clauses::{push_clause, push_lit, push_step, verdict};
+use cnf_core::{Cnf, Derivation, Lit, ProofStep};
 use proof_check::{Marks, Verdict};
 use sqlite_items::Items;
 use std::alloc::Global;
 use std::test::Fail;
 
-/// A clause and its hints.
-type Step = (&'static [i64], &'static [u64]);
+/// Clauses, each behind a `c`; steps, each behind an `s` with its hints behind an `h`; and the verdict.
+type Case = (&'static str, &'static str, Verdict);
 
-/// Clauses, steps and the verdict.
-type Case = (&'static [&'static [i64]], &'static [Step], Verdict);
+/// No two values of two variables: the clauses have the numbers 1 to 4.
+const SQUARE: &str = "c 1 2 c 1 -2 c -1 2 c -1 -2";
 
 const YES: Verdict = Verdict::Yes;
 
@@ -24,89 +24,116 @@ const THIRD: Verdict = Verdict::BadStep { step: 3 };
 const NO_EMPTY: Verdict = Verdict::NoEmpty;
 
 const CASES: [Case; 36] = [
-    (SQUARE, &[(&[1], &[1, 2]), (&[], &[5, 3, 4])], YES),
+    (SQUARE, "s 1 h 1 2 s h 5 3 4", YES),
     // clause 3 has two literals that aren't false
-    (SQUARE, &[(&[1], &[1, 2]), (&[], &[3, 5, 3, 4])], SECOND),
-    (SQUARE, &[(&[1], &[1, 2])], NO_EMPTY),
-    (SQUARE, &[], NO_EMPTY),
-    (&[], &[], NO_EMPTY),
+    (SQUARE, "s 1 h 1 2 s h 3 5 3 4", SECOND),
+    (SQUARE, "s 1 h 1 2", NO_EMPTY),
+    (SQUARE, "", NO_EMPTY),
+    ("", "", NO_EMPTY),
     // the empty clause has to be a step
-    (&[&[]], &[], NO_EMPTY),
-    (&[&[]], &[(&[], &[1])], YES),
+    ("c", "", NO_EMPTY),
+    ("c", "s h 1", YES),
     // no hint
-    (SQUARE, &[(&[1], &[])], FIRST),
+    (SQUARE, "s 1 h", FIRST),
     // hints: 0, the step itself, a later step, none at all
-    (SQUARE, &[(&[1], &[0, 2])], FIRST),
-    (SQUARE, &[(&[1], &[1, 0])], FIRST),
-    (SQUARE, &[(&[1], &[1, 5])], FIRST),
-    (SQUARE, &[(&[1], &[6, 2]), (&[2], &[1, 3])], FIRST),
-    (SQUARE, &[(&[1], &[1, 18446744073709551615])], FIRST),
+    (SQUARE, "s 1 h 0 2", FIRST),
+    (SQUARE, "s 1 h 1 0", FIRST),
+    (SQUARE, "s 1 h 1 5", FIRST),
+    (SQUARE, "s 1 h 6 2 s 2 h 1 3", FIRST),
+    (SQUARE, "s 1 h 1 18446744073709551615", FIRST),
     // a literal beside its opposite
-    (SQUARE, &[(&[1, -1], &[1, 2])], FIRST),
-    (SQUARE, &[(&[2, 1, -2], &[1])], FIRST),
+    (SQUARE, "s 1 -1 h 1 2", FIRST),
+    (SQUARE, "s 2 1 -2 h 1", FIRST),
     // repeated literals count once
-    (SQUARE, &[(&[1, 1], &[1, 2])], NO_EMPTY),
-    (&[&[1, 1], &[-1, -1]], &[(&[], &[1, 2])], YES),
-    (&[&[1, 2, 1], &[-2], &[-1]], &[(&[], &[2, 1, 3])], YES),
+    (SQUARE, "s 1 1 h 1 2", NO_EMPTY),
+    ("c 1 1 c -1 -1", "s h 1 2", YES),
+    ("c 1 2 1 c -2 c -1", "s h 2 1 3", YES),
     // the only literal left is true already
-    (&[&[1], &[1], &[-1]], &[(&[], &[1, 2, 3])], FIRST),
-    (
-        &[&[1], &[-2], &[1, 2], &[-1]],
-        &[(&[], &[1, 2, 3, 4])],
-        FIRST,
-    ),
-    (&[&[-1], &[1, 2]], &[(&[1], &[1, 2])], FIRST),
+    ("c 1 c 1 c -1", "s h 1 2 3", FIRST),
+    ("c 1 c -2 c 1 2 c -1", "s h 1 2 3 4", FIRST),
+    ("c -1 c 1 2", "s 1 h 1 2", FIRST),
     // a true literal beside one without a value
-    (&[&[1], &[1, 2], &[-1]], &[(&[], &[1, 2, 3])], FIRST),
+    ("c 1 c 1 2 c -1", "s h 1 2 3", FIRST),
     // a clause that has a literal and its opposite never helps
-    (&[&[1, -1], &[1], &[-1]], &[(&[], &[2, 1])], FIRST),
+    ("c 1 -1 c 1 c -1", "s h 2 1", FIRST),
     // hints behind the first clause that is all false
-    (&[&[1], &[-1], &[2]], &[(&[], &[1, 2, 3])], FIRST),
-    (&[&[1], &[-1], &[2]], &[(&[], &[1, 2])], YES),
+    ("c 1 c -1 c 2", "s h 1 2 3", FIRST),
+    ("c 1 c -1 c 2", "s h 1 2", YES),
     // the last hint's clause has a literal left, the last one alone too
-    (&[&[1], &[2]], &[(&[], &[1])], FIRST),
-    (&[&[1, 2], &[-1]], &[(&[], &[2, 1])], FIRST),
-    (&[&[-1], &[-2], &[1, 2, 3]], &[(&[], &[1, 2, 3])], FIRST),
-    (&[&[-1], &[-2], &[1, 2, 3]], &[(&[3], &[1, 2, 3])], NO_EMPTY),
+    ("c 1 c 2", "s h 1", FIRST),
+    ("c 1 2 c -1", "s h 2 1", FIRST),
+    ("c -1 c -2 c 1 2 3", "s h 1 2 3", FIRST),
+    ("c -1 c -2 c 1 2 3", "s 3 h 1 2 3", NO_EMPTY),
     // the order of hints
-    (&[&[1], &[-1, 2], &[-2]], &[(&[], &[2, 1, 3])], FIRST),
-    (&[&[1], &[-1, 2], &[-2]], &[(&[], &[1, 2, 3])], YES),
+    ("c 1 c -1 2 c -2", "s h 2 1 3", FIRST),
+    ("c 1 c -1 2 c -2", "s h 1 2 3", YES),
     // behind the empty clause
-    (
-        SQUARE,
-        &[(&[1], &[1, 2]), (&[], &[5, 3, 4]), (&[2], &[])],
-        THIRD,
-    ),
-    (
-        SQUARE,
-        &[(&[1], &[1, 2]), (&[], &[5, 3, 4]), (&[3], &[6])],
-        YES,
-    ),
-    (
-        SQUARE,
-        &[(&[1], &[1, 2]), (&[], &[5, 3, 4]), (&[3], &[6, 1])],
-        THIRD,
-    ),
+    (SQUARE, "s 1 h 1 2 s h 5 3 4 s 2 h", THIRD),
+    (SQUARE, "s 1 h 1 2 s h 5 3 4 s 3 h 6", YES),
+    (SQUARE, "s 1 h 1 2 s h 5 3 4 s 3 h 6 1", THIRD),
     // what a step assumed is forgotten
-    (SQUARE, &[(&[1, 2], &[1]), (&[], &[1])], SECOND),
+    (SQUARE, "s 1 2 h 1 s h 1", SECOND),
     // the first of two bad steps
-    (SQUARE, &[(&[1], &[1, 2]), (&[3], &[1]), (&[], &[])], SECOND),
+    (SQUARE, "s 1 h 1 2 s 3 h 1 s h", SECOND),
 ];
 
-fn derivation_of(alloc: Global, steps: &[Step]) -> Result<Derivation, Fail> {
-    let mut items = Items::new(alloc);
-    for (numbers, hints) in steps {
-        push_step(&mut items, alloc, numbers, hints)?;
+/// The literals of the numbers in the text.
+fn literals(alloc: Global, text: &str) -> Result<Items<Lit>, Fail> {
+    let mut clause = Items::new(alloc);
+    for word in text.split(' ') {
+        if let Ok(number) = word.parse::<i64>() {
+            push_lit(&mut clause, number)?;
+        }
     }
-    Ok(Derivation { steps: items })
+    Ok(clause)
+}
+
+fn hints(alloc: Global, text: &str) -> Result<Items<u64>, Fail> {
+    let mut hints = Items::new(alloc);
+    for word in text.split(' ') {
+        if let Ok(number) = word.parse::<u64>() {
+            hints.push(number)?;
+        }
+    }
+    Ok(hints)
+}
+
+fn clauses_of(alloc: Global, text: &str) -> Result<Items<Items<Lit>>, Fail> {
+    let mut clauses = Items::new(alloc);
+    for clause in text.split('c').skip(1) {
+        clauses.push(literals(alloc, clause)?)?;
+    }
+    Ok(clauses)
+}
+
+fn step_of(alloc: Global, text: &str) -> Result<ProofStep, Fail> {
+    let mut parts = text.split('h');
+    let clause = literals(alloc, parts.next().unwrap_or(""))?;
+    let hints = hints(alloc, parts.next().unwrap_or(""))?;
+    Ok(ProofStep { clause, hints })
+}
+
+fn derivation_of(alloc: Global, text: &str) -> Result<Derivation, Fail> {
+    let mut steps = Items::new(alloc);
+    for step in text.split('s').skip(1) {
+        steps.push(step_of(alloc, step)?)?;
+    }
+    Ok(Derivation { steps })
+}
+
+fn is_case(alloc: Global, clauses: &str, steps: &str, wanted: Verdict) -> Result<bool, Fail> {
+    let cnf = Cnf {
+        variables: 3,
+        clauses: clauses_of(alloc, clauses)?,
+    };
+    let derivation = derivation_of(alloc, steps)?;
+    Ok(verdict(alloc, &cnf, &derivation)? == wanted)
 }
 
 /// The first case with another verdict.
 fn wrong_case(alloc: Global) -> Result<Option<usize>, Fail> {
     for (row, (clauses, steps, wanted)) in CASES.iter().enumerate() {
-        let cnf = cnf_of(alloc, 3, clauses)?;
-        let derivation = derivation_of(alloc, steps)?;
-        if verdict(alloc, &cnf, &derivation)? != *wanted {
+        if !is_case(alloc, clauses, steps, *wanted)? {
             return Ok(Some(row));
         }
     }
