@@ -12,92 +12,75 @@ use std::alloc::Global;
 use std::test::Fail;
 use term_table::{Outcome, Plain, Shadow, Table, Text};
 
-/// The operator, its sides, how many guards are shown, and the value or the reason of the end. A string stands between `'`.
-const BINARY: [(BinaryOp, &str, &str, usize, &str); 66] = [
-    (BinaryOp::Add, "1", "2", 1, "3"),
-    (
-        BinaryOp::Add,
-        "9007199254740990",
-        "1",
-        1,
-        "9007199254740991",
-    ),
-    (BinaryOp::Add, "9007199254740991", "1", 0, "range"),
-    (BinaryOp::Add, "-9007199254740991", "-1", 0, "range"),
-    (BinaryOp::Add, "NaN", "1", 1, "NaN"),
-    (BinaryOp::Add, "undefined", "1", 1, "NaN"),
-    (BinaryOp::Add, "null", "true", 1, "1"),
-    (BinaryOp::Add, "'a'", "'b'", 1, "'ab'"),
-    (BinaryOp::Add, "'a'", "-7", 1, "'a-7'"),
-    (BinaryOp::Add, "null", "'x'", 1, "'nullx'"),
-    (BinaryOp::Add, "undefined", "''", 1, "'undefined'"),
-    (BinaryOp::Add, "false", "'!'", 1, "'false!'"),
-    (BinaryOp::Add, "NaN", "'!'", 1, "'NaN!'"),
-    (BinaryOp::Add, "'a'", "object", 0, "convert"),
-    (BinaryOp::Add, "object", "1", 0, "convert"),
-    (BinaryOp::Subtract, "1", "2", 1, "-1"),
-    (BinaryOp::Subtract, "-9007199254740991", "1", 0, "range"),
-    (BinaryOp::Subtract, "true", "null", 1, "1"),
-    (BinaryOp::Subtract, "'3'", "1", 0, "convert"),
-    (BinaryOp::Multiply, "-6", "7", 1, "-42"),
-    (BinaryOp::Multiply, "94906266", "94906266", 0, "range"),
-    (
-        BinaryOp::Multiply,
-        "94906265",
-        "94906265",
-        1,
-        "9007199136250225",
-    ),
-    (
-        BinaryOp::Multiply,
-        "9007199254740991",
-        "-9007199254740991",
-        0,
-        "range",
-    ),
-    (BinaryOp::Multiply, "0", "-5", 1, "0"),
-    (BinaryOp::Divide, "-42", "7", 1, "-6"),
-    (BinaryOp::Divide, "0", "-7", 1, "0"),
-    (BinaryOp::Divide, "7", "2", 0, "divide"),
-    (BinaryOp::Divide, "7", "0", 0, "divide"),
-    (BinaryOp::Divide, "NaN", "0", 1, "NaN"),
-    (BinaryOp::Remainder, "7", "-3", 0, "1"),
-    (BinaryOp::Remainder, "-7", "3", 0, "-1"),
-    (BinaryOp::Remainder, "-6", "3", 0, "0"),
-    (BinaryOp::Remainder, "5", "0", 0, "NaN"),
-    (BinaryOp::ShiftLeft, "1", "31", 0, "-2147483648"),
-    (BinaryOp::ShiftLeft, "1", "33", 0, "2"),
-    (BinaryOp::ShiftLeft, "3", "-1", 0, "-2147483648"),
-    (BinaryOp::ShiftLeft, "4294967297", "1", 0, "2"),
-    (BinaryOp::ShiftRight, "-5", "1", 0, "-3"),
-    (BinaryOp::ShiftRight, "-1", "31", 0, "-1"),
-    (BinaryOp::ShiftRight, "2147483648", "0", 0, "-2147483648"),
-    (BinaryOp::ShiftRightZero, "-1", "0", 0, "4294967295"),
-    (BinaryOp::ShiftRightZero, "-5", "1", 0, "2147483645"),
-    (BinaryOp::ShiftRightZero, "NaN", "5", 0, "0"),
-    (BinaryOp::BitAnd, "-1", "4294967295", 0, "-1"),
-    (BinaryOp::BitAnd, "12", "10", 0, "8"),
-    (BinaryOp::BitOr, "12", "10", 0, "14"),
-    (BinaryOp::BitXor, "-1", "1", 0, "-2"),
-    (BinaryOp::BitXor, "9007199254740991", "0", 0, "-1"),
-    (BinaryOp::Less, "1", "2", 0, "true"),
-    (BinaryOp::Less, "NaN", "2", 0, "false"),
-    (BinaryOp::GreaterEqual, "NaN", "NaN", 0, "false"),
-    (BinaryOp::LessEqual, "null", "0", 0, "true"),
-    (BinaryOp::Greater, "true", "false", 0, "true"),
-    (BinaryOp::Less, "'10'", "'9'", 0, "true"),
-    (BinaryOp::Less, "'a'", "'ab'", 0, "true"),
-    (BinaryOp::GreaterEqual, "'a'", "'a'", 0, "true"),
-    (BinaryOp::Less, "'1'", "2", 0, "convert"),
-    (BinaryOp::Equal, "NaN", "NaN", 0, "false"),
-    (BinaryOp::NotEqual, "NaN", "NaN", 0, "true"),
-    (BinaryOp::Equal, "null", "undefined", 0, "false"),
-    (BinaryOp::Equal, "'ab'", "'ab'", 0, "true"),
-    (BinaryOp::Equal, "1", "true", 0, "false"),
-    (BinaryOp::Equal, "object", "object", 0, "true"),
-    (BinaryOp::Equal, "-3", "-3", 0, "true"),
-    (BinaryOp::NotEqual, "'1'", "1", 0, "true"),
-    (BinaryOp::Equal, "undefined", "undefined", 0, "true"),
+/// The left side, the operator, the right side, how many guards are shown, and the value or the reason of the end. A string
+/// stands between `'`.
+const BINARY: [&str; 66] = [
+    "1;+;2;1;3",
+    "9007199254740990;+;1;1;9007199254740991",
+    "9007199254740991;+;1;0;range",
+    "-9007199254740991;+;-1;0;range",
+    "NaN;+;1;1;NaN",
+    "undefined;+;1;1;NaN",
+    "null;+;true;1;1",
+    "'a';+;'b';1;'ab'",
+    "'a';+;-7;1;'a-7'",
+    "null;+;'x';1;'nullx'",
+    "undefined;+;'';1;'undefined'",
+    "false;+;'!';1;'false!'",
+    "NaN;+;'!';1;'NaN!'",
+    "'a';+;object;0;convert",
+    "object;+;1;0;convert",
+    "1;-;2;1;-1",
+    "-9007199254740991;-;1;0;range",
+    "true;-;null;1;1",
+    "'3';-;1;0;convert",
+    "-6;*;7;1;-42",
+    "94906266;*;94906266;0;range",
+    "94906265;*;94906265;1;9007199136250225",
+    "9007199254740991;*;-9007199254740991;0;range",
+    "0;*;-5;1;0",
+    "-42;/;7;1;-6",
+    "0;/;-7;1;0",
+    "7;/;2;0;divide",
+    "7;/;0;0;divide",
+    "NaN;/;0;1;NaN",
+    "7;%;-3;0;1",
+    "-7;%;3;0;-1",
+    "-6;%;3;0;0",
+    "5;%;0;0;NaN",
+    "1;<<;31;0;-2147483648",
+    "1;<<;33;0;2",
+    "3;<<;-1;0;-2147483648",
+    "4294967297;<<;1;0;2",
+    "-5;>>;1;0;-3",
+    "-1;>>;31;0;-1",
+    "2147483648;>>;0;0;-2147483648",
+    "-1;>>>;0;0;4294967295",
+    "-5;>>>;1;0;2147483645",
+    "NaN;>>>;5;0;0",
+    "-1;&;4294967295;0;-1",
+    "12;&;10;0;8",
+    "12;|;10;0;14",
+    "-1;^;1;0;-2",
+    "9007199254740991;^;0;0;-1",
+    "1;<;2;0;true",
+    "NaN;<;2;0;false",
+    "NaN;>=;NaN;0;false",
+    "null;<=;0;0;true",
+    "true;>;false;0;true",
+    "'10';<;'9';0;true",
+    "'a';<;'ab';0;true",
+    "'a';>=;'a';0;true",
+    "'1';<;2;0;convert",
+    "NaN;===;NaN;0;false",
+    "NaN;!==;NaN;0;true",
+    "null;===;undefined;0;false",
+    "'ab';===;'ab';0;true",
+    "1;===;true;0;false",
+    "object;===;object;0;true",
+    "-3;===;-3;0;true",
+    "'1';!==;1;0;true",
+    "undefined;===;undefined;0;true",
 ];
 
 /// The operator, its operand, and the value or the reason of the end.
@@ -237,16 +220,35 @@ fn table(alloc: Global) -> Result<Table, NoMemory> {
     Table::new(alloc, &bounds)
 }
 
-fn is_binary(
-    alloc: Global,
-    table: &mut Table,
-    op: BinaryOp,
-    sides: (&str, &str),
-    guards: usize,
-    wanted: &str,
-) -> Result<bool, NoMemory> {
-    let x = bare(alloc, sides.0)?;
-    let y = bare(alloc, sides.1)?;
+fn operator(mark: &str) -> BinaryOp {
+    match mark {
+        "+" => BinaryOp::Add,
+        "-" => BinaryOp::Subtract,
+        "*" => BinaryOp::Multiply,
+        "/" => BinaryOp::Divide,
+        "%" => BinaryOp::Remainder,
+        "<<" => BinaryOp::ShiftLeft,
+        ">>" => BinaryOp::ShiftRight,
+        ">>>" => BinaryOp::ShiftRightZero,
+        "&" => BinaryOp::BitAnd,
+        "|" => BinaryOp::BitOr,
+        "^" => BinaryOp::BitXor,
+        "<" => BinaryOp::Less,
+        ">" => BinaryOp::Greater,
+        "<=" => BinaryOp::LessEqual,
+        ">=" => BinaryOp::GreaterEqual,
+        "===" => BinaryOp::Equal,
+        _ => BinaryOp::NotEqual,
+    }
+}
+
+fn is_binary(alloc: Global, table: &mut Table, row: &str) -> Result<bool, NoMemory> {
+    let mut parts = row.split(';');
+    let x = bare(alloc, parts.next().unwrap_or(""))?;
+    let op = operator(parts.next().unwrap_or(""));
+    let y = bare(alloc, parts.next().unwrap_or(""))?;
+    let guards = parts.next().unwrap_or("").parse::<usize>().unwrap_or(9);
+    let wanted = parts.next().unwrap_or("");
     let found = binary(alloc, table, 0, op, &x, &y)?;
     let holds = is_answer(&found, guards, wanted);
     drop(found);
@@ -255,9 +257,9 @@ fn is_binary(
 
 fn wrong_binary(alloc: Global) -> Result<Option<usize>, NoMemory> {
     let mut table = table(alloc)?;
-    for (row, (op, x, y, guards, wanted)) in BINARY.iter().enumerate() {
-        if !is_binary(alloc, &mut table, *op, (x, y), *guards, wanted)? {
-            return Ok(Some(row));
+    for (number, row) in BINARY.iter().enumerate() {
+        if !is_binary(alloc, &mut table, row)? {
+            return Ok(Some(number));
         }
     }
     Ok(None)
