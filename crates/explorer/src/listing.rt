@@ -7,7 +7,7 @@ ghost use Rattle.report_text.specs.Lines.{is_spelt};
 ghost use Rattle.report_text.specs.declared.report.Line.{Line};
 ghost use Rattle.explorer.specs.Listing.{named, line_of, line_path, all_lines, Picks, IsListed, max_inputs};
 
-use js_machine::run_plain;
+use small_machine::run_plain;
 use js_units::{NoMemory, Units};
 use path_core::{
     Bounds, Declared, Input, InputValue, Path, count, first_input, is_same_path, next_input,

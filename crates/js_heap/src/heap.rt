@@ -105,6 +105,14 @@ impl<V> Heap<V> {
         self.objects[id as usize].get(key)
     }
 
+    /// How many properties an object has.
+    pub fn properties(&self, id: u32) -> usize
+        requires { id < length self.now.objects }
+        ensures { result ≡ length (properties_at self.now id) }
+    {
+        self.objects[id as usize].properties()
+    }
+
     /// Sets a property, or creates it as the last one. A refused call changes nothing.
     pub fn set(&mut self, id: u32, key: Units, value: V) -> Result<(), NoMemory>
     where

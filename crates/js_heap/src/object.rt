@@ -55,6 +55,12 @@ impl<V> Object<V> {
         self.properties.get(key)
     }
 
+    pub(crate) fn properties(&self) -> usize
+        ensures { result ≡ length self.now.properties }
+    {
+        self.properties.len()
+    }
+
     pub(crate) fn set(&mut self, key: Units, value: V) -> Result<(), NoMemory>
     where
         V: Drop,

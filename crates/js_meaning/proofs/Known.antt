@@ -136,19 +136,27 @@ unfolding logical_links
 logical_map first [] = refl
 logical_map first (l ∷ ls) = ap (λ ts. link_with l ∷ ts) (logical_map first ls)
 
+pub binary_opens : (first : Expr) (ls : List (Link BinaryOp Expr)) →
+    expr (roll-Expr (Expr-F.Binary first ls)) ≡ of_expr (Expr-F.Binary (with_expr first) (map link_with ls))
+unfolding binary_links
+binary_opens first ls = opens_expr (Expr-F.Binary first ls)
+    ∙ ap {B = Meaning} (λ ts. of_expr (Expr-F.Binary (with_expr first) ts)) (binary_map first ls)
+
+pub logical_opens : (first : Expr) (ls : List (Link LogicalOp Expr)) →
+    expr (roll-Expr (Expr-F.Logical first ls)) ≡ of_expr (Expr-F.Logical (with_expr first) (map link_with ls))
+unfolding logical_links
+logical_opens first ls = opens_expr (Expr-F.Logical first ls)
+    ∙ ap {B = Meaning} (λ ts. of_expr (Expr-F.Logical (with_expr first) ts)) (logical_map first ls)
+
 pub binary_is : (k : Known) (ls : List (KnownLink BinaryOp)) →
     expr (roll-Expr (Expr-F.Binary k.tree (link_trees ls))) ≡ of_expr (Expr-F.Binary (pair k) (link_pairs ls))
-unfolding binary_links
-binary_is k ls = opens_expr (Expr-F.Binary k.tree (link_trees ls))
-    ∙ ap {B = Meaning} (λ ts. of_expr (Expr-F.Binary (with_expr k.tree) ts)) (binary_map k.tree (link_trees ls))
+binary_is k ls = binary_opens k.tree (link_trees ls)
     ∙ ap {B = Meaning} (λ p. of_expr (Expr-F.Binary p (map link_with (link_trees ls)))) (same k)
     ∙ ap {B = Meaning} (λ ts. of_expr (Expr-F.Binary (pair k) ts)) (same_links ls)
 
 pub logical_is : (k : Known) (ls : List (KnownLink LogicalOp)) →
     expr (roll-Expr (Expr-F.Logical k.tree (link_trees ls))) ≡ of_expr (Expr-F.Logical (pair k) (link_pairs ls))
-unfolding logical_links
-logical_is k ls = opens_expr (Expr-F.Logical k.tree (link_trees ls))
-    ∙ ap {B = Meaning} (λ ts. of_expr (Expr-F.Logical (with_expr k.tree) ts)) (logical_map k.tree (link_trees ls))
+logical_is k ls = logical_opens k.tree (link_trees ls)
     ∙ ap {B = Meaning} (λ p. of_expr (Expr-F.Logical p (map link_with (link_trees ls)))) (same k)
     ∙ ap {B = Meaning} (λ ts. of_expr (Expr-F.Logical (pair k) ts)) (same_links ls)
 
@@ -208,11 +216,15 @@ members_map site (member.Value at key e ∷ ms) = ap (λ ts. member.Value at key
 members_map site (member.Shorthand name ∷ ms) =
     ap {B = List (Member (Expr × Meaning))} (λ ts. member.Shorthand name ∷ ts) (members_map site ms)
 
+pub object_opens : (site : ℕ) (ms : List (Member Expr)) →
+    expr (roll-Expr (Expr-F.Object site ms)) ≡ of_expr (Expr-F.Object site (map member_with ms))
+unfolding members_in
+object_opens site ms = opens_expr (Expr-F.Object site ms)
+    ∙ ap {B = Meaning} (λ ts. of_expr (Expr-F.Object site ts)) (members_map site ms)
+
 pub object_is : (site : ℕ) (ms : List KnownMember) →
     expr (roll-Expr (Expr-F.Object site (member_trees ms))) ≡ of_expr (Expr-F.Object site (member_pairs ms))
-unfolding members_in
-object_is site ms = opens_expr (Expr-F.Object site (member_trees ms))
-    ∙ ap {B = Meaning} (λ ts. of_expr (Expr-F.Object site ts)) (members_map site (member_trees ms))
+object_is site ms = object_opens site (member_trees ms)
     ∙ ap {B = Meaning} (λ ts. of_expr (Expr-F.Object site ts)) (same_members ms)
 
 abbrev pub object : ℕ → List KnownMember → Known
@@ -290,11 +302,15 @@ suffixes_map first (suffix.Access (access.Index site is_static e) ∷ xs) =
 suffixes_map first (suffix.Call site es ∷ xs) =
     ap (λ ts. suffix.Call site (map with_expr es) ∷ ts) (suffixes_map first xs)
 
+pub call_opens : (first : Expr) (xs : List (Suffix Expr)) →
+    expr (roll-Expr (Expr-F.Call first xs)) ≡ of_expr (Expr-F.Call (with_expr first) (map suffix_with xs))
+unfolding suffixes_in
+call_opens first xs = opens_expr (Expr-F.Call first xs)
+    ∙ ap {B = Meaning} (λ ts. of_expr (Expr-F.Call (with_expr first) ts)) (suffixes_map first xs)
+
 pub call_is : (k : Known) (xs : List KnownSuffix) →
     expr (roll-Expr (Expr-F.Call k.tree (suffix_trees xs))) ≡ of_expr (Expr-F.Call (pair k) (suffix_pairs xs))
-unfolding suffixes_in
-call_is k xs = opens_expr (Expr-F.Call k.tree (suffix_trees xs))
-    ∙ ap {B = Meaning} (λ ts. of_expr (Expr-F.Call (with_expr k.tree) ts)) (suffixes_map k.tree (suffix_trees xs))
+call_is k xs = call_opens k.tree (suffix_trees xs)
     ∙ ap {B = Meaning} (λ p. of_expr (Expr-F.Call p (map suffix_with (suffix_trees xs)))) (same k)
     ∙ ap {B = Meaning} (λ ts. of_expr (Expr-F.Call (pair k) ts)) (same_suffixes xs)
 
@@ -324,7 +340,7 @@ same_target (to_property k a) =
     ap {B = Target (Expr × Meaning)} (λ p. target.Access p (access_with (access_tree a))) (same k)
     ∙ ap {B = Target (Expr × Meaning)} (λ b. target.Access (pair k) b) (same_access a)
 
-step_opens : (start site : ℕ) (op : StepOp) (is_prefix : Bool) (t : Target Expr) →
+pub step_opens : (start site : ℕ) (op : StepOp) (is_prefix : Bool) (t : Target Expr) →
     expr (roll-Expr (Expr-F.Step start site op is_prefix t)) ≡ of_expr (Expr-F.Step start site op is_prefix (target_with t))
 step_opens start site op is_prefix (target.Name name) =
     opens_expr (Expr-F.Step start site op is_prefix (target.Name name))
@@ -343,7 +359,7 @@ abbrev pub step : ℕ → ℕ → StepOp → Bool → KnownTarget → Known
 step start site op is_prefix t =
     record { tree = roll-Expr (Expr-F.Step start site op is_prefix (target_tree t)); does = of_expr (Expr-F.Step start site op is_prefix (target_pair t)); is = step_is start site op is_prefix t }
 
-assign_opens : (start site : ℕ) (op : Option BinaryOp) (t : Target Expr) (e : Expr) →
+pub assign_opens : (start site : ℕ) (op : Option BinaryOp) (t : Target Expr) (e : Expr) →
     expr (roll-Expr (Expr-F.Assign start site op t e)) ≡ of_expr (Expr-F.Assign start site op (target_with t) (with_expr e))
 assign_opens start site op (target.Name name) e = opens_expr (Expr-F.Assign start site op (target.Name name) e)
 assign_opens start site op (target.Access x (access.Property at name)) e =

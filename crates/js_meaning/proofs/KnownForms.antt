@@ -116,7 +116,7 @@ head_pair no_head = head.Nothing
 head_pair (value_head k) = head.Value (pair k)
 head_pair (declare_head kind ds) = head.Declare kind (declarator_pairs ds)
 
-abbrev head_with : LoopHead Expr → LoopHead (Expr × Meaning)
+abbrev pub head_with : LoopHead Expr → LoopHead (Expr × Meaning)
 head_with head.Nothing = head.Nothing
 head_with (head.Value e) = head.Value (with_expr e)
 head_with (head.Declare kind ds) = head.Declare kind (map declarator_with ds)
@@ -126,7 +126,7 @@ same_head no_head = refl
 same_head (value_head k) = ap {B = LoopHead (Expr × Meaning)} (λ p. head.Value p) (same k)
 same_head (declare_head kind ds) = ap {B = LoopHead (Expr × Meaning)} (λ ts. head.Declare kind ts) (same_declarators ds)
 
-abbrev for_layer : ℕ → LoopHead Expr → Option Expr → Option Expr → Stmt →
+abbrev pub for_layer : ℕ → LoopHead Expr → Option Expr → Option Expr → Stmt →
     Stmt-F (Expr × Meaning) (Stmt × Meaning) (Arm × Arms)
 for_layer site h t u s =
     map-Stmt Expr Stmt Arm (Expr × Meaning) (Stmt × Meaning) (Arm × Arms) with_expr with_stmt with_arm (Stmt-F.For site h t u s)
@@ -148,7 +148,7 @@ declared_map site kind (d ∷ ds) t u s =
     declared_first site kind d.name d.value ds t u s
     ∙ ap (λ ts. declarator_with d ∷ ts) (declared_map site kind ds t u s)
 
-for_opens : (site : ℕ) (h : LoopHead Expr) (t u : Option Expr) (s : Stmt) →
+pub for_opens : (site : ℕ) (h : LoopHead Expr) (t u : Option Expr) (s : Stmt) →
     stmt (roll-Stmt (Stmt-F.For site h t u s)) ≡ of_stmt (Stmt-F.For site (head_with h) (option_map with_expr t) (option_map with_expr u) (with_stmt s))
 unfolding declared_in
 for_opens site head.Nothing None None s = opens_stmt (Stmt-F.For site head.Nothing None None s)
@@ -213,7 +213,7 @@ known_finished (Some ks) calls k scope st c = bind (known_block ks calls k scope
 abbrev pub catch_tree : KnownCatch → Catch (List Stmt)
 catch_tree c = record { name = c.0; body = stmt_trees c.1 }
 
-abbrev catch_with : Catch (List Stmt) → Catch (List (Stmt × Meaning))
+abbrev pub catch_with : Catch (List Stmt) → Catch (List (Stmt × Meaning))
 catch_with c = record { name = c.name; body = map with_stmt c.body }
 
 caught_at : (o : Option KnownCatch) (calls : Calls) (k : ℕ) (scope : Scope) (st : Place) (c : Completion) →
@@ -266,7 +266,7 @@ abbrev pub trying : ℕ → Meaning → Handler → Handler → Meaning
 trying site m g h calls k scope st =
     count site st (λ st. bind (bind (m calls k scope st) (g calls k scope)) (h calls k scope))
 
-try_opens : (site : ℕ) (body : List Stmt) (c : Option (Catch (List Stmt))) (f : Option (List Stmt)) →
+pub try_opens : (site : ℕ) (body : List Stmt) (c : Option (Catch (List Stmt))) (f : Option (List Stmt)) →
     stmt (roll-Stmt (Stmt-F.Try site body c f)) ≡ trying site (block_of (map with_stmt body)) (caught (option_map catch_with c)) (finished (option_map (map with_stmt) f))
 try_opens site body None None = opens_stmt (Stmt-F.Try site body None None)
 try_opens site body (Some c) None = opens_stmt (Stmt-F.Try site body (Some c) None)

@@ -84,11 +84,11 @@ same_block ks =
     ∙ ap {B = Meaning} (λ g. block_with (known_names ks) g (stmts (stmt_trees ks))) (same_starts ks)
     ∙ ap {B = Meaning} (λ ms. block_with (known_names ks) (starts ks) ms) (same_doings ks)
 
-trees_with : (ss : List Stmt) → trees_of (map with_stmt ss) ≡ ss
+pub trees_with : (ss : List Stmt) → trees_of (map with_stmt ss) ≡ ss
 trees_with [] = refl
 trees_with (s ∷ ss) = ap (λ ts. s ∷ ts) (trees_with ss)
 
-meanings_with : (ss : List Stmt) → map (λ (p : Stmt × Meaning). p.1) (map with_stmt ss) ≡ stmts ss
+pub meanings_with : (ss : List Stmt) → map (λ (p : Stmt × Meaning). p.1) (map with_stmt ss) ≡ stmts ss
 unfolding stmts
 meanings_with [] = refl
 meanings_with (s ∷ ss) = ap (λ ms. stmt s ∷ ms) (meanings_with ss)
@@ -227,11 +227,15 @@ declarators_map site kind (d ∷ ds) =
     declarators_first site kind name None ds = refl
     declarators_first site kind name (Some e) ds = refl
 
+pub declare_opens : (site : ℕ) (kind : DeclarationKind) (ds : List (Declarator Expr)) →
+    stmt (roll-Stmt (Stmt-F.Declare site kind ds)) ≡ of_stmt (Stmt-F.Declare site kind (map declarator_with ds))
+unfolding declarators_in
+declare_opens site kind ds = opens_stmt (Stmt-F.Declare site kind ds)
+    ∙ ap {B = Meaning} (λ ts. of_stmt (Stmt-F.Declare site kind ts)) (declarators_map site kind ds)
+
 pub declare_is : (site : ℕ) (kind : DeclarationKind) (ds : List KnownDeclarator) →
     stmt (roll-Stmt (Stmt-F.Declare site kind (declarator_trees ds))) ≡ of_stmt (Stmt-F.Declare site kind (declarator_pairs ds))
-unfolding declarators_in
-declare_is site kind ds = opens_stmt (Stmt-F.Declare site kind (declarator_trees ds))
-    ∙ ap {B = Meaning} (λ ts. of_stmt (Stmt-F.Declare site kind ts)) (declarators_map site kind (declarator_trees ds))
+declare_is site kind ds = declare_opens site kind (declarator_trees ds)
     ∙ ap {B = Meaning} (λ ts. of_stmt (Stmt-F.Declare site kind ts)) (same_declarators ds)
 
 abbrev pub declare_ : ℕ → DeclarationKind → List KnownDeclarator → KnownStmt

@@ -54,7 +54,8 @@ inherited_names =
     ∷ codes "toLocaleString" ∷ codes "toString" ∷ codes "valueOf" ∷ codes "__proto__" ∷ codes "__defineGetter__"
     ∷ codes "__defineSetter__" ∷ codes "__lookupGetter__" ∷ codes "__lookupSetter__" ∷ []
 
--- a value that was read from a property: a call of it has the base as its `this`
+-- a value that was read from a property: a call of it has the base as its `this`. The length of a string is no function,
+-- so there it makes no difference
 abbrev pub holds : Value → Value → Row
 holds base x = ([], comes_to (callee x base))
 
@@ -113,7 +114,7 @@ get_row site (truth b) key objects = other site (truth b) key
 get_row site (int n) key objects = other site (int n) key
 get_row site nan key objects = other site nan key
 get_row site (text t) key objects =
-    if bytes_eq key (codes "length") then holds (text t) (int (pos (length t))) else other site (text t) key
+    if bytes_eq key (codes "length") then holds undefined (int (pos (length t))) else other site (text t) key
 get_row site (object o) key objects = get_own site o key (object_at objects o)
 
 -- behind `.`, of what stands before it; of a built-in name only a listed property. A method that isn't called has left the

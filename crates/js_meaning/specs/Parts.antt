@@ -1,5 +1,5 @@
 -- Parts of expressions: arguments, literals, chains of operators and of suffixes, and targets. `run` is what a part below does.
-use Rattle.std.specs.Prelude.{ℕ, ◌+◌, Bool, true, false, List, [], ◌∷◌, ◌++◌, Option, Some, None, decimal}
+use Rattle.std.specs.Prelude.{ℕ, ◌+◌, min, Bool, true, false, List, [], ◌∷◌, ◌++◌, Option, Some, None, decimal}
 use Rattle.path_core.specs.declared.path.Why.TheVariants as why
 use Rattle.js_ast.specs.declared.operators.BinaryOp.{BinaryOp}
 use Rattle.js_ast.specs.declared.operators.LogicalOp.{LogicalOp}
@@ -74,8 +74,12 @@ members run site (m ∷ ms) calls k scope o st =
 
 -- ---- chains of operators; each operator counts when it is reached, before its right side
 
+-- the count of joins of strings stops at what 32 bits hold; the nodes bound it far below
+abbrev pub most_joins : ℕ
+most_joins = 4294967295
+
 abbrev pub noted : Bool → Place → Place
-noted true st = record st { joins = st.joins + 1 }
+noted true st = record st { joins = min (st.joins + 1) most_joins }
 noted false st = st
 
 -- an operator, on the values of both its sides (13.15.3)

@@ -128,12 +128,12 @@ pub fn step(op: StepOp, x: &Plain) -> Row
 /// ToString as a row: a string, or the end of what isn't converted.
 #[tactic(auto, unfolding(js_meaning::specs::Operators::text_row))]
 pub fn text(alloc: Global, x: &Plain) -> Result<Row, NoMemory>
+    requires { IsValue x.now }
     ensures row { (site : ℕ) → IfOk result (λ row. shown site row ≡ text_row site (plain_value x.now)) }
     ensures whole { IfOk result (λ row. IsRow row) }
 {
-    let row = match to_string(alloc, x)? {
-        Some(text) => Row::Value(Plain::Text(text)),
-        None => Row::Ended { why: Why::Convert },
+    let Some(text) = to_string(alloc, x)? else {
+        return Ok(Row::Ended { why: Why::Convert });
     };
-    Ok(row)
+    Ok(Row::Value(Plain::Text(text)))
 }

@@ -1,5 +1,5 @@
 -- Shadows that fit a table.
-use Rattle.std.specs.Prelude.{◌≡◌, ℤ, true, List, [], ◌∷◌, slice_get, Option, Some, None}
+use Rattle.std.specs.Prelude.{◌≡◌, ◌≤◌, length, ℤ, true, List, [], ◌∷◌, slice_get, Option, Some, None}
 use Rattle.js_values.specs.Numbers.{is_safe}
 use Rattle.term_table.specs.declared.term.Term.{Term}
 use Rattle.term_table.specs.declared.term.Term.TheVariants as term
@@ -29,9 +29,10 @@ kind_of (term.Text t) = strings
 abbrev pub HasKind : List Term → TermId → Kind → Type 0
 HasKind terms id k = (t : Term) × (slice_get terms id.0 ≡ Some t) × (kind_of t ≡ k)
 
--- the content is a value of the language
+-- the content is a value of the language: a safe integer, and a string of no more units than a string may have
 abbrev pub IsValue : Plain → Type 0
 IsValue (plain.Int n) = is_safe n ≡ true
+IsValue (plain.Text t) = length t ≤ 65536
 IsValue _ = Unit {0}
 
 -- what may stand beside a value: so far no row makes a term

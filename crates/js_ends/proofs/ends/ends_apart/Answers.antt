@@ -1,0 +1,5 @@
+use Rattle.js_ends.proofs.Laws.{ends_apart}
+use Rattle.js_ends.proofs.ends.ends_apart.Goals as goal
+
+pub returns : goal.returns
+returns c = record { apart = λ tokens script bounds values answers h l. ends_apart tokens script bounds values answers h l }

@@ -1,0 +1,9 @@
+pub mod Bindings
+pub mod Lists
+pub mod Made
+pub mod Results
+pub mod Shown
+pub mod Plays
+pub mod Looked
+pub mod ByBase
+pub mod Stored

@@ -1,0 +1,13 @@
+use Rattle.std.proofs.Common.{refl, sym, ap, ◌∙◌, [], ◌∷◌, ◌≡◌}
+use Rattle.term_table.specs.Walking.{Stopped}
+use Rattle.js_state.proofs.Plays.{does_cut, does_end, does_fail}
+use Rattle.js_state.proofs.state.State.play_stop.Goals as goal
+
+pub returns-in-Some-clause-does : goal.returns-in-Some-clause-does
+returns-in-Some-clause-does c row walks = does_cut row (λ view w. Stopped view c.args.failed c.args.exit w) c.in-Some.site c.in_ok-site.ensures walks c.in-Some.is c.too_many.ensures
+
+pub returns-in-None-clause-does : goal.returns-in-None-clause-does
+returns-in-None-clause-does c row walks = does_end row c.args.exit c.stamped-exit.result c.in_ok-site.ensures walks c.in_default.is c.in-None.is c.stamped-exit.ensures
+
+pub returns-in_ok-fail-in-Some-failed-clause-does : goal.returns-in_ok-fail-in-Some-failed-clause-does
+returns-in_ok-fail-in-Some-failed-clause-does c row walks = does_fail row c.in-Some-failed.term c.args.exit c.stamped-exit.result c.in_ok-site.ensures walks c.in_default.is c.in-Some-failed.is c.stamped-exit.ensures c.in_ok-fail-in-Some-failed.ensures

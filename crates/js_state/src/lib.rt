@@ -1,0 +1,24 @@
+//! The state of a run: its scopes, bindings and objects, what it has spent of its budgets, and what it has shown.
+#![tactic(auto)]
+
+mod budgets;
+mod builtins;
+mod cells;
+mod closure;
+mod completion;
+mod held;
+mod objects;
+mod playing;
+mod properties;
+mod reading;
+mod rows;
+mod shadows;
+mod state;
+mod writing;
+
+pub use builtins::{Builtin, Method, Static};
+pub use closure::{Closure, Code, Scope};
+pub use completion::{Completion, Reference};
+pub use held::{Bound, RunMove, Supplied};
+pub use shadows::{UNDEFINED, object, share, this_value};
+pub use state::State;
