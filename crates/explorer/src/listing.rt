@@ -7,13 +7,13 @@ ghost use Rattle.report_text.specs.Lines.{is_spelt};
 ghost use Rattle.report_text.specs.declared.report.Line.{Line};
 ghost use Rattle.explorer.specs.Listing.{named, line_of, line_path, all_lines, Picks, IsListed, max_inputs};
 
-use small_machine::run_plain;
 use js_units::{NoMemory, Units};
 use path_core::{
     Bounds, Declared, Input, InputValue, Path, count, first_input, is_same_path, next_input,
 };
 use report_text::{Line, Report};
 use small_ast::Script;
+use small_machine::run_plain;
 use sqlite_items::Items;
 use std::alloc::Global;
 

@@ -129,17 +129,17 @@ quietly {old} {new} {fs} {gs} {go} {next} q h =
 pub stays : {old new : Contents} {fs gs : List Frame} {go next : View → Fuel → Outcome} → Quiet old new → gs ≡ fs → ((view : View) (w : Fuel) → go view w ≡ next view w) → Goes old fs go new gs next
 stays {old} {new} {fs} {gs} {go} {next} q e h =
     quietly q (λ view whole m.
-        let there : Means view new.turns fs (next view) whole =
-        record { fuel = m.fuel; fuels = m.fuels; covers = covers_less q.turns m.covers; all = all_less old.turns new.turns m.fuels fs q.turns m.all; same = ap (resume view m.fuels fs) (sym (h view m.fuel)) ∙ m.same } in
-        subst (λ gs. Means view new.turns gs (next view) whole) (sym e) there)
+    let there : Means view new.turns fs (next view) whole =
+    record { fuel = m.fuel; fuels = m.fuels; covers = covers_less q.turns m.covers; all = all_less old.turns new.turns m.fuels fs q.turns m.all; same = ap (resume view m.fuels fs) (sym (h view m.fuel)) ∙ m.same } in
+    subst (λ gs. Means view new.turns gs (next view) whole) (sym e) there)
 
 -- a part is begun, behind which a frame waits
 pub pushes : {old new : Contents} {fs gs : List Frame} {go next : View → Fuel → Outcome} (f : Frame) → Quiet old new → gs ≡ f ∷ fs → ((view : View) (w : Fuel) → go view w ≡ bind (next view w) (frame_of view w f)) → Goes old fs go new gs next
 pushes {old} {new} {fs} {gs} {go} {next} f q e h =
     quietly q (λ view whole m.
-        let there : Means view new.turns (f ∷ fs) (next view) whole =
-        record { fuel = m.fuel; fuels = m.fuel ∷ m.fuels; covers = covers_less q.turns m.covers; all = (covers_less q.turns m.covers, all_less old.turns new.turns m.fuels fs q.turns m.all); same = ap (resume view m.fuels fs) (sym (h view m.fuel)) ∙ m.same } in
-        subst (λ gs. Means view new.turns gs (next view) whole) (sym e) there)
+    let there : Means view new.turns (f ∷ fs) (next view) whole =
+    record { fuel = m.fuel; fuels = m.fuel ∷ m.fuels; covers = covers_less q.turns m.covers; all = (covers_less q.turns m.covers, all_less old.turns new.turns m.fuels fs q.turns m.all); same = ap (resume view m.fuels fs) (sym (h view m.fuel)) ∙ m.same } in
+    subst (λ gs. Means view new.turns gs (next view) whole) (sym e) there)
 
 -- a row was taken up, before what follows it
 pub plays : {old new : Contents} {fs : List Frame} {part : View → Outcome} {completion : Completion} (cont : View → Fuel → Place → Ending → Outcome) → Does old new part completion → new.turns ≤ old.turns → ((view : View) (w : Fuel) → Hands (cont view w)) →
@@ -156,8 +156,8 @@ plays {old} {new} {fs} {part} {completion} cont d t so =
           let same : bind (part view) K ≡ whole = sym (resume_bind view m.fuels fs (part view) (cont view m.fuel)) ∙ m.same in
           subst (λ o. Track view d.added o (Means view new.turns fs (λ w. cont view w (place_of view new) (completion_at view completion)))) same
           (track_map view d.added (bind (part view) K) (λ o. o ≡ K (place_of view new) (completion_at view completion)) (Means view new.turns fs (λ w. cont view w (place_of view new) (completion_at view completion)))
-              (λ o e. record { fuel = m.fuel; fuels = m.fuels; covers = covers_less t m.covers; all = all_less old.turns new.turns m.fuels fs t m.all; same = sym e })
-              (d.on view u K hands));
+          (λ o e. record { fuel = m.fuel; fuels = m.fuels; covers = covers_less t m.covers; all = all_less old.turns new.turns m.fuels fs t m.all; same = sym e })
+          (d.on view u K hands));
     }
 
 -- ---- turns
@@ -166,8 +166,8 @@ plays {old} {new} {fs} {part} {completion} cont d t so =
 pub rounds : {old new : Contents} {fs gs : List Frame} {go next : View → Fuel → Outcome} (f : Frame) → Quiet old new → suc new.turns ≡ old.turns → gs ≡ f ∷ fs → ((view : View) (n k : ℕ) → go view (record { calls = n; loops = suc k }) ≡ bind (next view (record { calls = n; loops = suc k })) (frame_of view (record { calls = n; loops = k }) f)) → Goes old fs go new gs next
 rounds {old} {new} {fs} {gs} {go} {next} f q l e h =
     quietly q (λ view whole m.
-        let there : Means view new.turns (f ∷ fs) (next view) whole = one_less view m.fuel.calls m.fuel.loops m.fuels m.covers m.all m.same in
-        subst (λ gs. Means view new.turns gs (next view) whole) (sym e) there)
+    let there : Means view new.turns (f ∷ fs) (next view) whole = one_less view m.fuel.calls m.fuel.loops m.fuels m.covers m.all m.same in
+    subst (λ gs. Means view new.turns gs (next view) whole) (sym e) there)
   where
     one_less : {whole : Outcome} (view : View) (n k : ℕ) (ws : List Fuel) → Covers old.turns (record { calls = n; loops = k }) → CoverAll old.turns ws fs → resume view ws fs (go view (record { calls = n; loops = k })) ≡ whole → Means view new.turns (f ∷ fs) (next view) whole
     one_less view n zero ws cv al s = absurd (omega (arith, cv.loops, l))
@@ -184,8 +184,8 @@ rounds {old} {new} {fs} {gs} {go} {next} f q l e h =
 pub calls : {old new : Contents} {fs gs : List Frame} {go next : View → Fuel → Outcome} (f : Frame) → Quiet old new → suc new.turns ≡ old.turns → gs ≡ f ∷ fs → ((view : View) (n k : ℕ) → go view (record { calls = suc n; loops = k }) ≡ bind (next view (record { calls = n; loops = suc n })) (frame_of view (record { calls = suc n; loops = k }) f)) → Goes old fs go new gs next
 calls {old} {new} {fs} {gs} {go} {next} f q l e h =
     quietly q (λ view whole m.
-        let there : Means view new.turns (f ∷ fs) (next view) whole = one_less view m.fuel.calls m.fuel.loops m.fuels m.covers m.all m.same in
-        subst (λ gs. Means view new.turns gs (next view) whole) (sym e) there)
+    let there : Means view new.turns (f ∷ fs) (next view) whole = one_less view m.fuel.calls m.fuel.loops m.fuels m.covers m.all m.same in
+    subst (λ gs. Means view new.turns gs (next view) whole) (sym e) there)
   where
     one_less : {whole : Outcome} (view : View) (n k : ℕ) (ws : List Fuel) → Covers old.turns (record { calls = n; loops = k }) → CoverAll old.turns ws fs → resume view ws fs (go view (record { calls = n; loops = k })) ≡ whole → Means view new.turns (f ∷ fs) (next view) whole
     one_less view zero k ws cv al s = absurd (omega (arith, cv.calls, l))
@@ -221,7 +221,7 @@ runs {old} {new} {fs} {gs} {go} completion l e f g view u =
     let same : l.added ≡ new.moves = ap (λ xs. xs ++ l.added) (sym e) ∙ sym l.moves in
     subst (λ ms. Track view ms (go view (record { calls = old.turns; loops = old.turns })) (λ w. w ≡ done (place_of view new) (completion_at view completion))) same
     (track_map view l.added (go view (record { calls = old.turns; loops = old.turns })) (Means view new.turns gs (thread view (Give completion) new)) (λ w. w ≡ done (place_of view new) (completion_at view completion))
-        (λ w m. ends w (subst (λ gs. Means view new.turns gs (thread view (Give completion) new) w) g m)) tracked)
+    (λ w m. ends w (subst (λ gs. Means view new.turns gs (thread view (Give completion) new) w) g m)) tracked)
   where
     ends : (w : Outcome) → Means view new.turns [] (thread view (Give completion) new) w → w ≡ done (place_of view new) (completion_at view completion)
     ends w m = sym m.same

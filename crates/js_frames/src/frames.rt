@@ -34,7 +34,10 @@ pub enum Frame<'a> {
     /// The body of a for-of, and the place of its next item.
     OfBody(OfLoop<'a>, usize),
     /// A statement before others.
-    Rest { body: &'a [Stmt], scope: Scope },
+    Rest {
+        body: &'a [Stmt],
+        scope: Scope,
+    },
     /// What the head of a `for` declares.
     ForDeclared(ForLoop<'a>, Scope),
     /// The block of a `try`.

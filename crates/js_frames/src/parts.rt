@@ -20,7 +20,10 @@ pub enum Aim<'a> {
         suffixes: &'a [Suffix<Boxed<Expr>>],
     },
     /// `new` of the constructor of an error.
-    New { site: u32, name: &'a Units },
+    New {
+        site: u32,
+        name: &'a Units,
+    },
 }
 
 /// Values so far.
@@ -71,7 +74,10 @@ pub enum Part<'a> {
         rest: &'a [Boxed<Expr>],
     },
     /// The operand of an operator before it.
-    Operand { site: u32, op: UnaryOp },
+    Operand {
+        site: u32,
+        op: UnaryOp,
+    },
     /// The left side of a chain of operators.
     LinksLeft {
         links: &'a [Link<BinaryOp, Boxed<Expr>>],
@@ -183,5 +189,7 @@ pub enum Part<'a> {
         scope: Scope,
     },
     ReturnDone,
-    ThrowDone { site: u32 },
+    ThrowDone {
+        site: u32,
+    },
 }
