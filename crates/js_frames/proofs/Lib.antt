@@ -1,2 +1,4 @@
 pub mod Opens
+pub mod Passing
+pub mod Statements
 pub mod Steps

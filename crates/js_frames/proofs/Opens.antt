@@ -93,7 +93,7 @@ aim_same (target.Access base (access.Index site is_static x)) = refl
 
 -- ---- expressions
 
-abbrev Counted : Type 0
+abbrev pub Counted : Type 0
 Counted = Calls → ℕ → Scope → Place → Outcome
 
 pub expr_Name : (name : Identifier) → expr (e.Name name) ≡ (λ calls k scope st. count name.site st (λ st. read_name name.site name.name scope st))

@@ -1,2 +1,4 @@
+pub mod Credit
+pub mod Fitting
 pub mod Machine
 pub mod Weight

@@ -4,6 +4,7 @@ ghost use Rattle.std.specs.Prelude.{◌≡◌, None, IfOk};
 ghost use Rattle.js_meaning.specs.Apart.{Guarding};
 ghost use Rattle.js_meaning.specs.Running.{leaving};
 ghost use Rattle.term_table.specs.Fitting.{FitsOutcome};
+ghost use Rattle.term_table.specs.Prices.{outcome_price};
 ghost use Rattle.term_table.specs.Views.{View, Agrees};
 ghost use Rattle.term_table.specs.Walking.{Shows};
 ghost use Rattle.term_table.specs.Fitting.{IsValue};
@@ -46,6 +47,7 @@ fn passed(
     ensures shows { (view : View) → Agrees view table.now → IfOk result (λ o. Shows view site o (shown site (Passed why value))) }
     ensures fits { IfOk result (λ o. FitsOutcome table.now o) }
     ensures guarded { IfOk result (λ o. NamesGuard o) }
+    ensures free { IfOk result (λ o. outcome_price table.now o ≡ 0) }
 {
     let mut moves = Moves::new(alloc);
     let term = table.flag(true);
@@ -61,6 +63,7 @@ fn failed(alloc: Global, table: &Table, site: u32, why: Why) -> Outcome
     ensures shows { (view : View) → Agrees view table.now → Shows view site result (shown site (Failed why)) }
     ensures fits { FitsOutcome table.now result }
     ensures guarded { NamesGuard result }
+    ensures free { outcome_price table.now result ≡ 0 }
 {
     let moves = Moves::new(alloc);
     let term = table.flag(false);
@@ -78,6 +81,7 @@ pub fn answered(alloc: Global, table: &Table, site: u32, row: Row) -> Result<Out
     ensures shows { (view : View) → Agrees view table.now → IfOk result (λ o. Shows view site o (shown site row)) }
     ensures fits { IfOk result (λ o. FitsOutcome table.now o) }
     ensures guarded { IfOk result (λ o. NamesGuard o) }
+    ensures free { IfOk result (λ o. outcome_price table.now o ≡ 0) }
 {
     match row {
         Row::Value(value) => {

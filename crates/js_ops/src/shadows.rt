@@ -1,12 +1,13 @@
 //! The operators and conversions on shadows, each meeting its row at every view. So far no value has a term.
 
-ghost use Rattle.std.specs.Prelude.{◌≡◌, IfOk, List};
+ghost use Rattle.std.specs.Prelude.{◌≡◌, ◌≤◌, ◌+◌, length, IfOk, List};
 ghost use Rattle.js_ast.specs.declared.operators.UnaryOp.TheVariants.{TypeOf};
 ghost use Rattle.js_meaning.specs.Conversions.{to_boolean};
 ghost use Rattle.js_meaning.specs.Operators.{binary_row, unary_row, step_row, text_row};
 ghost use Rattle.js_meaning.specs.Values.{Object, truth};
 ghost use Rattle.term_table.specs.Fitting.{Fits, FitsOutcome};
 ghost use Rattle.term_table.specs.Growing.{Grown};
+ghost use Rattle.term_table.specs.Prices.{CostsAtMost};
 ghost use Rattle.term_table.specs.Views.{View, Agrees, at};
 ghost use Rattle.term_table.specs.Walking.{Meets};
 ghost use Rattle.js_ops.specs.Contents.{IsTold, NamesGuard};
@@ -33,6 +34,7 @@ pub fn binary(
     ensures fits { IfOk result (λ o. FitsOutcome table.new o) }
     ensures guarded { IfOk result (λ o. NamesGuard o) }
     ensures grown { Grown table.old table.new }
+    ensures price { IfOk result (λ o. CostsAtMost 15 table.old table.new o) }
 {
     let row = two_operands::binary(alloc, op, &a.plain, &b.plain)?;
     let outcome = answered(alloc, table, site, row)?;
@@ -53,6 +55,7 @@ pub fn unary(
     ensures fits { IfOk result (λ o. FitsOutcome table.new o) }
     ensures guarded { IfOk result (λ o. NamesGuard o) }
     ensures grown { Grown table.old table.new }
+    ensures price { IfOk result (λ o. CostsAtMost 8 table.old table.new o) }
 {
     let row = contents::unary(alloc, op, &a.plain)?;
     let outcome = answered(alloc, table, site, row)?;
@@ -72,6 +75,7 @@ pub fn step(
     ensures fits { IfOk result (λ o. FitsOutcome table.new o) }
     ensures guarded { IfOk result (λ o. NamesGuard o) }
     ensures grown { Grown table.old table.new }
+    ensures price { IfOk result (λ o. CostsAtMost 9 table.old table.new o) }
 {
     let row = contents::step(op, &a.plain);
     let outcome = answered(alloc, table, site, row)?;
@@ -85,6 +89,7 @@ pub fn to_text(alloc: Global, table: &mut Table, site: u32, a: &Shadow) -> Resul
     ensures fits { IfOk result (λ o. FitsOutcome table.new o) }
     ensures guarded { IfOk result (λ o. NamesGuard o) }
     ensures grown { Grown table.old table.new }
+    ensures price { IfOk result (λ o. CostsAtMost 5 table.old table.new o) }
 {
     let row = contents::text(alloc, &a.plain)?;
     let outcome = answered(alloc, table, site, row)?;
@@ -97,6 +102,7 @@ pub fn to_flag(_alloc: Global, table: &mut Table, a: &Shadow) -> Result<Shadow, 
     ensures value { (view : View) → Agrees view table.new → IfOk result (λ flag. at view flag ≡ truth (to_boolean (at view a.now))) }
     ensures fits { IfOk result (λ flag. Fits table.new flag) }
     ensures grown { Grown table.old table.new }
+    ensures price { length table.new ≤ length table.old + 5 }
 {
     let holds = conversions::to_boolean(&a.plain);
     Ok(Shadow {

@@ -1,9 +1,10 @@
 pub mod Bindings
 pub mod Lists
 pub mod Made
-pub mod Results
+pub mod Found
 pub mod Shown
 pub mod Plays
 pub mod Looked
 pub mod ByBase
 pub mod Stored
+pub mod Spending

@@ -6,3 +6,4 @@ pub mod Inside
 pub mod Playing
 pub mod Properties
 pub mod Seen
+pub mod Spending

@@ -15,6 +15,7 @@ use Rattle.js_meaning.specs.Values.{Place}
 use Rattle.js_meaning.specs.Running.{Item, made, Completion as Ending, stops, Outcome, done, after, bind, stamp, event_limit, site_of_event}
 use Rattle.js_meaning.specs.Path.{events_of}
 use Rattle.js_state.specs.Held.{Contents}
+use Rattle.js_state.specs.Spending.{spent}
 use Rattle.js_state.specs.Seen.{place_of, completion_at, Agreeing}
 use Rattle.js_state.specs.declared.held.RunMove.{RunMove}
 use Rattle.js_state.specs.declared.held.RunMove.TheVariants as run
@@ -122,6 +123,7 @@ pub record Still (old new : Contents) : Type 0 where
   pub moves : new.moves ≡ old.moves
   pub table : new.table ≡ old.table
   pub keeps : new.keeps ≡ old.keeps
+  pub spends : spent new ≡ spent old
 
 -- no move
 pub record Quiet (old new : Contents) : Type 0 where
@@ -129,6 +131,7 @@ pub record Quiet (old new : Contents) : Type 0 where
   pub moves : new.moves ≡ old.moves
   pub table : new.table ≡ old.table
   pub keeps : new.keeps ≡ old.keeps
+  pub spends : spent new ≡ spent old
 
 -- neither a turn nor a node
 pub record Level (old new : Contents) : Type 0 where

@@ -11,6 +11,7 @@ mod objects;
 mod playing;
 mod properties;
 mod reading;
+mod results;
 mod rows;
 mod shadows;
 mod state;

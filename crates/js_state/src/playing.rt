@@ -1,14 +1,16 @@
 //! Rows are taken up by the run.
 
-ghost use Rattle.std.specs.Prelude.{◌≡◌, ◌≤◌, [], ◌∷◌, ◌++◌, IfOk, OnOk, Bool};
+ghost use Rattle.std.specs.Prelude.{◌≡◌, ◌≤◌, ◌+◌, [], ◌∷◌, ◌++◌, IfOk, OnOk, Bool};
 ghost use Rattle.path_core.specs.declared.path.End.TheVariants.{Cut};
 ghost use Rattle.path_core.specs.declared.path.Budget.TheVariants.{Events};
 ghost use Rattle.js_meaning.specs.Running.{Row, gives, raises, play as playing, site_of_event};
 ghost use Rattle.term_table.specs.Fitting.{Fits, FitsOutcome};
+ghost use Rattle.term_table.specs.Prices.{moves_price, failed_price, outcome_price};
 ghost use Rattle.term_table.specs.Views.{View, at as seen_at};
 ghost use Rattle.term_table.specs.Walking.{Walk, EndsRow, Stopped, Shows};
 ghost use Rattle.js_state.specs.Fitting.{InCompletion, IsPlayed};
 ghost use Rattle.js_state.specs.Playing.{Does, TakenUp, Level, failed_kept};
+ghost use Rattle.js_state.specs.Spending.{SpendsAtMost};
 ghost use Rattle.js_state.specs.Seen.{place_of, Agreeing};
 ghost use Rattle.js_state.specs.declared.completion.Completion.TheVariants.{Stop};
 ghost use Rattle.term_table.specs.declared.moves.Move.TheVariants.{Event as AnEvent};
@@ -99,6 +101,7 @@ impl<'a> State<'a> {
         ensures table { IfOk result (λ completion. self.new.table ≡ self.old.table) }
         ensures fits { IfOk result (λ completion. InCompletion (Fits self.new.table) completion) }
         ensures kind { IfOk result (λ completion. IsPlayed completion) }
+        ensures price { IfOk result (λ completion. SpendsAtMost (moves_price self.old.table moves) self.old self.new) }
     {
         match self.take_up(moves)? {
             None => Ok(Completion::Value(value)),
@@ -120,6 +123,7 @@ impl<'a> State<'a> {
         ensures table { IfOk result (λ completion. self.new.table ≡ self.old.table) }
         ensures fits { IfOk result (λ completion. InCompletion (Fits self.new.table) completion) }
         ensures kind { IfOk result (λ completion. IsPlayed completion) }
+        ensures price { IfOk result (λ completion. SpendsAtMost (moves_price self.old.table moves + failed_price self.old.table failed) self.old self.new) }
     {
         if let Some(site) = self.take_up(moves)? {
             return Ok(too_many(site));
@@ -145,6 +149,7 @@ impl<'a> State<'a> {
         ensures table { IfOk result (λ completion. self.new.table ≡ self.old.table) }
         ensures fits { IfOk result (λ completion. InCompletion (Fits self.new.table) completion) }
         ensures kind { IfOk result (λ completion. IsPlayed completion) }
+        ensures price { IfOk result (λ completion. SpendsAtMost (moves_price self.old.table moves) self.old self.new) }
     {
         match self.take_up(moves)? {
             None => {
@@ -163,6 +168,7 @@ impl<'a> State<'a> {
         ensures table { IfOk result (λ completion. self.new.table ≡ self.old.table) }
         ensures fits { IfOk result (λ completion. InCompletion (Fits self.new.table) completion) }
         ensures kind { IfOk result (λ completion. IsPlayed completion) }
+        ensures price { IfOk result (λ completion. SpendsAtMost (outcome_price self.old.table outcome) self.old self.new) }
     {
         match outcome {
             Outcome::Value { moves, value } => {

@@ -1,6 +1,6 @@
 //! Operators and tests of a run.
 
-ghost use Rattle.std.specs.Prelude.{◌≡◌, ◌≤◌, IfOk, MatchOption, Bool, List, ℕ};
+ghost use Rattle.std.specs.Prelude.{◌≡◌, ◌≤◌, ◌+◌, length, IfOk, MatchOption, Bool, List, ℕ};
 ghost use Rattle.js_ast.specs.declared.operators.UnaryOp.TheVariants.{TypeOf};
 ghost use Rattle.js_meaning.specs.Conversions.{is_text};
 ghost use Rattle.js_meaning.specs.Operators.{branch_row, test_row, logical_row, binary_row, is_join, unary_row, step_row};
@@ -8,12 +8,14 @@ ghost use Rattle.js_meaning.specs.Objects.{is_callable as callable};
 ghost use Rattle.js_meaning.specs.Parts.{apply, noted};
 ghost use Rattle.js_meaning.specs.Running.{giving, play as playing};
 ghost use Rattle.term_table.specs.Fitting.{Fits, FitsOutcome};
+ghost use Rattle.term_table.specs.Prices.{CostsAtMost};
 ghost use Rattle.term_table.specs.Walking.{Shows};
 ghost use Rattle.js_ops.specs.Contents.{IsTold};
 ghost use Rattle.js_meaning.specs.Values.{Object as SpecObject, object as an_object};
 ghost use Rattle.term_table.specs.Views.{View, at as seen_at, plain_value};
 ghost use Rattle.js_state.specs.Fitting.{InCompletion, IsPlayed, ErrStops, IsOr};
 ghost use Rattle.js_state.specs.Playing.{Does, Level, Still, Asked, told};
+ghost use Rattle.js_state.specs.Spending.{SpendsAtMost};
 ghost use Rattle.js_state.specs.Seen.{place_of, Agreeing};
 ghost use Rattle.term_table.specs.declared.shadow.Plain.TheVariants.{Object as AnObject};
 
@@ -90,6 +92,7 @@ impl<'a> State<'a> {
         ensures asked { IfOk result (λ o. Asked self.old self.new) }
         ensures shows { IfOk result (λ o. (view : View) → Agreeing view self.new → Shows view site o (binary_row op site (seen_at view a.now) (seen_at view b.now))) }
         ensures fits { IfOk result (λ o. FitsOutcome self.new.table o) }
+        ensures price { IfOk result (λ o. CostsAtMost 15 self.old.table self.new.table o) }
     {
         let outcome = js_ops::binary(self.alloc, &mut self.table, site, op, a, b)?;
         Ok(outcome)
@@ -109,6 +112,7 @@ impl<'a> State<'a> {
         ensures level { IfOk result (λ completion. Level self.old self.new) }
         ensures fits { IfOk result (λ completion. InCompletion (Fits self.new.table) completion) }
         ensures kind { IfOk result (λ completion. IsPlayed completion) }
+        ensures price { IfOk result (λ completion. SpendsAtMost 15 self.old self.new) }
     {
         self.note_join(op, a, b);
         let outcome = self.ask_binary(site, op, a, b)?;
@@ -122,6 +126,7 @@ impl<'a> State<'a> {
         ensures asked { IfOk result (λ o. Asked self.old self.new) }
         ensures shows { IfOk result (λ o. (objects : List SpecObject) (view : View) → Agreeing view self.new → Shows view site o (unary_row op site (seen_at view a.now) objects)) }
         ensures fits { IfOk result (λ o. FitsOutcome self.new.table o) }
+        ensures price { IfOk result (λ o. CostsAtMost 8 self.old.table self.new.table o) }
     {
         let outcome = js_ops::unary(self.alloc, &mut self.table, site, op, a)?;
         Ok(outcome)
@@ -132,6 +137,7 @@ impl<'a> State<'a> {
         ensures asked { IfOk result (λ o. Asked self.old self.new) }
         ensures shows { IfOk result (λ o. (view : View) → Agreeing view self.new → Shows view site o (step_row op site (seen_at view a.now))) }
         ensures fits { IfOk result (λ o. FitsOutcome self.new.table o) }
+        ensures price { IfOk result (λ o. CostsAtMost 9 self.old.table self.new.table o) }
     {
         let outcome = js_ops::step(self.alloc, &mut self.table, site, op, a)?;
         Ok(outcome)
@@ -144,6 +150,7 @@ impl<'a> State<'a> {
         ensures level { IfOk result (λ completion. Level self.old self.new) }
         ensures fits { IfOk result (λ completion. InCompletion (Fits self.new.table) completion) }
         ensures kind { IfOk result (λ completion. IsPlayed completion) }
+        ensures price { IfOk result (λ completion. SpendsAtMost 9 self.old self.new) }
     {
         let outcome = self.ask_step(site, op, a)?;
         let completion = self.play(site, outcome)?;
@@ -156,6 +163,7 @@ impl<'a> State<'a> {
         ensures level { IfOk result (λ o. Level self.old self.new) }
         ensures table { IfOk result (λ o. self.new.table ≡ self.old.table) }
         ensures stops { IfOk result (λ o. ErrStops o) }
+        ensures price { IfOk result (λ o. SpendsAtMost 7 self.old self.new) }
         ensures tells { IfOk result (λ o. IsOr holds o) }
     {
         let event = Event::Pick {
@@ -178,6 +186,7 @@ impl<'a> State<'a> {
         ensures level { IfOk result (λ o. Level self.old self.new) }
         ensures table { IfOk result (λ o. self.new.table ≡ self.old.table) }
         ensures stops { IfOk result (λ o. ErrStops o) }
+        ensures price { IfOk result (λ o. SpendsAtMost 7 self.old self.new) }
     {
         let holds = to_boolean(&value.plain);
         let told = self.branch(site, holds)?;
@@ -196,6 +205,7 @@ impl<'a> State<'a> {
         ensures level { IfOk result (λ o. Level self.old self.new) }
         ensures table { IfOk result (λ o. self.new.table ≡ self.old.table) }
         ensures stops { IfOk result (λ o. ErrStops o) }
+        ensures price { IfOk result (λ o. SpendsAtMost 7 self.old self.new) }
     {
         let holds = decides(op, &value.plain);
         let told = self.branch(site, holds)?;
@@ -229,6 +239,7 @@ impl<'a> State<'a> {
         ensures level { IfOk result (λ completion. Level self.old self.new) }
         ensures fits { IfOk result (λ completion. InCompletion (Fits self.new.table) completion) }
         ensures kind { IfOk result (λ completion. IsPlayed completion) }
+        ensures price { IfOk result (λ completion. SpendsAtMost 8 self.old self.new) }
     {
         if let Some(id) = told_by_class(op, &a.plain) {
             let value = self.type_of(id)?;

@@ -3,3 +3,4 @@ pub mod Growing
 pub mod Views
 pub mod Walking
 pub mod Fitting
+pub mod Prices

@@ -1,7 +1,7 @@
 use Rattle.std.proofs.Common.{refl, sym, ap, ◌∙◌}
 use Rattle.term_table.proofs.Views.{at_plain}
 use Rattle.term_table.specs.declared.shadow.Plain.TheVariants.{Object}
-use Rattle.js_state.proofs.Results.{result_ok, result_err}
+use Rattle.js_state.proofs.Found.{result_ok, result_err}
 use Rattle.js_state.proofs.state.State.throw_error.Goals as goal
 
 pub returns-in-Ok-clause-gives : goal.returns-in-Ok-clause-gives

@@ -8,6 +8,8 @@ use Rattle.js_meaning.specs.Running.{play}
 use Rattle.js_meaning.specs.Values.{object}
 use Rattle.js_state.specs.Seen.{place_of}
 use Rattle.js_state.proofs.Plays.{does_behind, does_give}
+use Rattle.std.proofs.Common.{arith}
+use Rattle.js_state.proofs.Spending.{asked_spends}
 use Rattle.js_state.proofs.state.State.unary.Goals as goal
 
 pub returns-in-Some-clause-does : goal.returns-in-Some-clause-does
@@ -20,3 +22,6 @@ returns-clause-does c =
     does_behind (ap (λ x. x.moves) q.same) q.grown (ap (λ x. x.keeps) q.same)
     (λ view. ap (λ st. play (unary_row c.args.op c.args.site (at view c.args.a.now) (place_of view c.args.self.now).objects) st) (sym (ap (place_of view) q.same)))
     (c.in_ok-completion.ensures.does (λ view. unary_row c.args.op c.args.site (at view c.args.a.now) (place_of view c.args.self.now).objects) (λ view a. c.in_ok-outcome.ensures.shows (place_of view c.args.self.now).objects view a))
+
+pub returns-clause-price : goal.returns-clause-price
+returns-clause-price c = omega (arith, asked_spends _ _ c.in_ok-outcome.ensures.asked c.in_ok-outcome.ensures.price, c.in_ok-completion.ensures.price)
