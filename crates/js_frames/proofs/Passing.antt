@@ -104,9 +104,9 @@ told_passes view (Err (c.Return s)) st go e = absurd e
 told_passes view (Err (c.Throw site s)) st go e = absurd e
 
 -- a row of a test was taken up, before what follows its outcome
-pub tells : {old new : Contents} {fs : List Frame} {part : View → Outcome} {o : Result Bool Completion} (rest : View → Fuel → Bool → Place → Outcome) → Does old new part (told o) → ErrStops o → new.turns ≡ old.turns →
+pub tells : {old new : Contents} {fs : List Frame} {part : View → Outcome} (o : Result Bool Completion) (rest : View → Fuel → Bool → Place → Outcome) → Does old new part (told o) → ErrStops o → new.turns ≡ old.turns →
     Goes old fs (λ view w. bind (part view) (on_value (λ b st. rest view w (to_boolean b) st))) new fs (λ view w. MatchResult view (λ b. b) o (place_of view new) (rest view w))
-tells {old} {new} {fs} {part} {o} rest d e t =
+tells {old} {new} {fs} {part} o rest d e t =
     both (plays (λ view w. on_value (λ b st. rest view w (to_boolean b) st)) d (omega (arith, t)) (λ view w st end. refl))
     (stays still refl (λ view w. told_passes view o (place_of view new) (rest view w) e))
 

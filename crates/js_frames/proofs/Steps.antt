@@ -103,16 +103,16 @@ both {a} {b} {d} {fs} {gs} {hs} {go} {next} {last} l m =
     }
 
 pub still : {st : Contents} → Quiet st st
-still = record { turns = omega arith; moves = refl; table = refl; keeps = refl }
+still = record { turns = omega arith; moves = refl; table = refl; keeps = refl; spends = refl }
 
 pub quiet_of : {old new : Contents} → Still old new → Quiet old new
-quiet_of s = record { turns = omega (arith, s.turns); moves = s.moves; table = s.table; keeps = s.keeps }
+quiet_of s = record { turns = omega (arith, s.turns); moves = s.moves; table = s.table; keeps = s.keeps; spends = s.spends }
 
 pub quiet_both : {a b d : Contents} → Quiet a b → Quiet b d → Quiet a d
-quiet_both q r = record { turns = omega (arith, q.turns, r.turns); moves = r.moves ∙ q.moves; table = r.table ∙ q.table; keeps = r.keeps ∙ q.keeps }
+quiet_both q r = record { turns = omega (arith, q.turns, r.turns); moves = r.moves ∙ q.moves; table = r.table ∙ q.table; keeps = r.keeps ∙ q.keeps; spends = r.spends ∙ q.spends }
 
 pub still_both : {a b d : Contents} → Still a b → Still b d → Still a d
-still_both q r = record { turns = r.turns ∙ q.turns; nodes = r.nodes ∙ q.nodes; moves = r.moves ∙ q.moves; table = r.table ∙ q.table; keeps = r.keeps ∙ q.keeps }
+still_both q r = record { turns = r.turns ∙ q.turns; nodes = r.nodes ∙ q.nodes; moves = r.moves ∙ q.moves; table = r.table ∙ q.table; keeps = r.keeps ∙ q.keeps; spends = r.spends ∙ q.spends }
 
 -- no move, no term: the whole stays
 pub quietly : {old new : Contents} {fs gs : List Frame} {go next : View → Fuel → Outcome} → Quiet old new → ((view : View) (whole : Outcome) → Means view old.turns fs (go view) whole → Means view new.turns gs (next view) whole) → Goes old fs go new gs next
