@@ -251,3 +251,17 @@ pub record Leads (old : Contents) (fs : List Frame) (go : View → Contents → 
 abbrev pub MatchOutcome : {A : Type 0} → Option A → Outcome → (A → Outcome) → Outcome
 MatchOutcome None none some = none
 MatchOutcome (Some x) none some = some x
+
+-- ---- what single steps come to
+
+-- an expression was begun
+abbrev pub Evals : Contents → List Frame → Expr → Around → Contents → List Frame → Work → Type 0
+Evals old fs tree scope new gs next = Leads old fs (λ view st w. doing w (expr tree) scope (place_of view st)) new gs next
+
+-- a part has its value
+abbrev pub Continues : Contents → List Frame → Part → Shadow → Contents → List Frame → Work → Type 0
+Continues old fs part value new gs next = Leads old fs (λ view st w. part_of view w part (at view value) (place_of view st)) new gs next
+
+-- at each view the place comes to this one, with this completion
+abbrev pub Gives : (View → Outcome) → Contents → Completion → Type 0
+Gives go new completion = (view : View) → go view ≡ done (place_of view new) (completion_at view completion)

@@ -1,6 +1,7 @@
 -- A number that falls at each step of the machine: nodes and turns pay for frames.
-use Rattle.std.specs.Prelude.{ℕ, ◌+◌, ◌-◌, ◌*◌, List, [], ◌∷◌}
+use Rattle.std.specs.Prelude.{ℕ, ◌<◌, ◌+◌, ◌-◌, ◌*◌, List, [], ◌∷◌}
 use Rattle.js_meaning.specs.Running.{node_limit}
+use Rattle.js_state.specs.Held.{Contents}
 use Rattle.js_state.specs.declared.completion.Completion.{Completion}
 use Rattle.js_state.specs.declared.completion.Completion.TheVariants.{Stop}
 use Rattle.js_frames.specs.declared.parts.Part.{Part}
@@ -54,3 +55,7 @@ standing nodes turns fs = 60 * (node_limit - nodes) + 60 * turns + cost_of_frame
 
 abbrev pub weight : ℕ → ℕ → List Frame → Work → ℕ
 weight nodes turns fs next = standing nodes turns fs + cost_of_work next
+
+-- less than the stack and what was about to be done, which costs so much
+abbrev pub Falls : Contents → List Frame → ℕ → Contents → List Frame → ℕ → Type 0
+Falls old fs before new gs after = standing new.nodes new.turns gs + after < standing old.nodes old.turns fs + before

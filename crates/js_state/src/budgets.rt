@@ -13,9 +13,17 @@ ghost use Rattle.js_state.specs.declared.completion.Completion.TheVariants.{Stop
 
 use crate::completion::Completion;
 use crate::state::State;
-use path_core::{End, Why};
+use path_core::{Budget, End, Why};
 
 const NODE_LIMIT: u32 = 50_000_000;
+
+/// The run stops at a site, since a budget is spent.
+#[inline(always)]
+pub fn cut(site: u32, what: Budget) -> Completion
+    ensures { result ≡ Stop (Cut site what) }
+{
+    Completion::Stop(End::Cut { site, what })
+}
 
 impl<'a> State<'a> {
     /// Counts one node, or says that there are too many: at most 50,000,000.

@@ -17,6 +17,7 @@ mod shadows;
 mod state;
 mod writing;
 
+pub use budgets::cut;
 pub use builtins::{Builtin, Method, Static};
 pub use closure::{Closure, Code, Scope};
 pub use completion::{Completion, Reference};

@@ -15,6 +15,7 @@ ghost use Rattle.js_state.specs.Seen.{place_of, Agreeing};
 ghost use Rattle.js_state.specs.declared.completion.Completion.TheVariants.{Stop};
 ghost use Rattle.term_table.specs.declared.moves.Move.TheVariants.{Event as AnEvent};
 
+use crate::budgets::cut;
 use crate::completion::Completion;
 use crate::held::RunMove;
 use crate::state::State;
@@ -36,10 +37,7 @@ fn site_of(event: &Event) -> u32
 pub(crate) fn too_many(site: u32) -> Completion
     ensures { result ≡ Stop (Cut site Events) }
 {
-    Completion::Stop(End::Cut {
-        site,
-        what: Budget::Events,
-    })
+    cut(site, Budget::Events)
 }
 
 impl<'a> State<'a> {

@@ -1,0 +1,4 @@
+//! Steps of the machine for expressions.
+#![tactic(auto)]
+
+mod values;

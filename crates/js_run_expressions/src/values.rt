@@ -1,0 +1,107 @@
+//! Expressions that are values at once (ECMA-262, sections 13.1 and 13.2).
+
+ghost use Rattle.std.specs.Prelude.{◌≡◌, ◌≤◌, ◌<◌, ◌+◌, ◌*◌, [], pos, length, IfOk, true, false};
+ghost use Rattle.path_core.specs.declared.path.Why.TheVariants as why;
+ghost use Rattle.term_table.specs.Fitting.{Fits};
+ghost use Rattle.term_table.specs.Views.{View, at as seen_at};
+ghost use Rattle.js_meaning.specs.Meaning.{text_literal};
+ghost use Rattle.js_meaning.specs.Names.{read_name as reading};
+ghost use Rattle.js_meaning.specs.Running.{count as counting, done, given};
+ghost use Rattle.js_meaning.specs.Values.{int};
+ghost use Rattle.js_values.specs.Numbers.{is_safe};
+ghost use Rattle.js_state.specs.Fitting.{InCompletion};
+ghost use Rattle.js_state.specs.Held.{scope_of};
+ghost use Rattle.js_state.specs.Playing.{Quiet};
+ghost use Rattle.js_state.specs.Seen.{place_of};
+ghost use Rattle.js_state.specs.Spending.{credit_of_given};
+ghost use Rattle.js_frames.specs.Credit.{Earns};
+ghost use Rattle.js_frames.specs.Machine.{Gives};
+ghost use Rattle.js_frames.specs.Weight.{Falls, cost_of_given};
+
+use js_ast::Identifier;
+use js_state::{Completion, Scope, State, cut};
+use js_units::{NoMemory, Units};
+use path_core::{Budget, Why};
+use std::alloc::Global;
+use term_table::{Plain, Shadow, Text};
+
+const TEXT_LIMIT: usize = 65_536;
+
+/// A name that is read.
+pub(crate) fn name(
+    state: &mut State,
+    name: &Identifier,
+    scope: Scope,
+) -> Result<Completion, NoMemory>
+    ensures gives { IfOk result (λ completion. Gives (λ view. counting name.now.site (place_of view state.old) (λ st. reading name.now.site name.now.name (scope_of scope) st)) state.new completion) }
+    ensures quiet { IfOk result (λ completion. Quiet state.old state.new) }
+    ensures falls { IfOk result (λ completion. Falls state.old [] 1 state.new [] (cost_of_given completion)) }
+    ensures earns { IfOk result (λ completion. Earns state.old state.new 0 (credit_of_given completion)) }
+    ensures fits { IfOk result (λ completion. InCompletion (Fits state.new.table) completion) }
+{
+    if !state.count() {
+        return Ok(cut(name.site, Budget::Nodes));
+    }
+    let completion = state.read_name(name.site, &name.name, scope)?;
+    Ok(completion)
+}
+
+/// A value that the script spells.
+pub(crate) fn constant(state: &mut State, site: u32, value: Shadow) -> Completion
+    requires { Fits state.old.table value }
+    ensures gives { Gives (λ view. counting site (place_of view state.old) (λ st. done st (given (seen_at view value)))) state.new result }
+    ensures quiet { Quiet state.old state.new }
+    ensures falls { Falls state.old [] 1 state.new [] (cost_of_given result) }
+    ensures earns { Earns state.old state.new 0 (credit_of_given result) }
+    ensures fits { InCompletion (Fits state.new.table) result }
+{
+    if !state.count() {
+        drop(value);
+        return cut(site, Budget::Nodes);
+    }
+    Completion::Value(value)
+}
+
+/// A whole number that the script spells: at most 2^53 - 1.
+pub(crate) fn number(state: &mut State, site: u32, value: u64) -> Completion
+    requires { value ≤ 9007199254740991 }
+    ensures gives { Gives (λ view. counting site (place_of view state.old) (λ st. done st (given (int (pos value))))) state.new result }
+    ensures quiet { Quiet state.old state.new }
+    ensures falls { Falls state.old [] 1 state.new [] (cost_of_given result) }
+    ensures earns { Earns state.old state.new 0 (credit_of_given result) }
+    ensures fits { InCompletion (Fits state.new.table) result }
+{
+    let value = Shadow {
+        plain: Plain::Int(value as i64),
+        term: None,
+    };
+    constant(state, site, value)
+}
+
+/// A text that the script spells. One of more than 65,536 units leaves the profile.
+#[tactic(auto, using(std::proofs::lemmas::Bool::Decides::nat_tests))]
+pub(crate) fn text(
+    alloc: Global,
+    state: &mut State,
+    site: u32,
+    value: &Units,
+) -> Result<Completion, NoMemory>
+    ensures gives { IfOk result (λ completion. Gives (λ view. counting site (place_of view state.old) (λ st. text_literal site value.now st)) state.new completion) }
+    ensures quiet { IfOk result (λ completion. Quiet state.old state.new) }
+    ensures falls { IfOk result (λ completion. Falls state.old [] 1 state.new [] (cost_of_given completion)) }
+    ensures earns { IfOk result (λ completion. Earns state.old state.new 0 (credit_of_given completion)) }
+    ensures fits { IfOk result (λ completion. InCompletion (Fits state.new.table) completion) }
+{
+    if !state.count() {
+        return Ok(cut(site, Budget::Nodes));
+    }
+    if value.len() > TEXT_LIMIT {
+        return Ok(state.left(site, Why::Size));
+    }
+    let units = value.copy()?;
+    let text = Text::new(alloc, units)?;
+    Ok(Completion::Value(Shadow {
+        plain: Plain::Text(text),
+        term: None,
+    }))
+}
