@@ -1,5 +1,5 @@
 -- Expressions keep exits apart, one layer at a time: the places of what stands below are given.
-use Rattle.std.proofs.Common.{ℕ, suc, ◌≡◌, ◌≤◌, ◌<◌, ◌⊎◌, inl, inr, Bool, true, false, nat_le, length, List, [], ◌∷◌, map, Option, Some, None, refl, sym, subst, arith}
+use Rattle.std.proofs.Common.{ℕ, suc, ◌≡◌, ◌≤◌, ◌<◌, ◌⊎◌, inl, inr, Bool, true, false, nat_le, pos, length, List, [], ◌∷◌, map, Option, Some, None, refl, sym, subst, arith}
 use Rattle.path_core.specs.declared.path.Why.{Why}
 use Rattle.path_core.specs.declared.path.Why.TheVariants as why
 use Rattle.js_ast.specs.declared.expression.Expr.{Expr, roll-Expr}
@@ -17,7 +17,8 @@ use Rattle.js_ast.specs.declared.parts.Suffix.{Suffix}
 use Rattle.js_ast.specs.declared.parts.Target.{Target}
 use Rattle.js_ast.specs.declared.parts.Member.{Member}
 use Rattle.js_grammar.specs.Grammar.{binary_of, logical_of, call_of}
-use Rattle.js_meaning.specs.Values.{Text, Value, null, truth, text, Scope, statements, expression, array, plain, Place}
+use Rattle.js_values.specs.Numbers.{most_safe}
+use Rattle.js_meaning.specs.Values.{Text, Value, int, null, truth, text, Scope, statements, expression, array, plain, Place}
 use Rattle.js_meaning.specs.Running.{given, Outcome, done, bind, leaves, on_value, its_value, play, text_limit}
 use Rattle.js_meaning.specs.Builtins.{Calls, among, error_names, construct}
 use Rattle.js_meaning.specs.Names.{Found, bound, supplied, listed, nowhere as missing, find_name, read_found}
@@ -74,9 +75,10 @@ given_part : {m : Meaning} (lo hi : ℕ) (value : Scope → Value) → lo ≤ hi
 given_part lo hi value l is =
     plain_part lo hi l (λ calls c k scope d st s. subst (λ r. Fresh nowhere (Within lo hi) (Within lo hi) d (moment st) r) (sym (is calls k scope st)) (done_fresh nowhere (Within lo hi) (Within lo hi) d st (given (value scope)) s tt tt))
 
-pub number_part : (lo hi site n : ℕ) → lo ≤ hi → Part lo hi (expr (e.Number site n))
-number_part lo hi site n l =
-    expr_layer (Expr-F.Number site n) (e.Number site n) (Expr-F.Number site n) (e.rolls-Number site n) (opens_expr (Expr-F.Number site n)) (given_part lo hi _ l (λ calls k scope st. refl))
+pub number_part : (lo hi site n : ℕ) → lo ≤ site → site < hi → Part lo hi (expr (e.Number site n))
+number_part lo hi site n l m =
+    expr_layer (Expr-F.Number site n) (e.Number site n) (Expr-F.Number site n) (e.rolls-Number site n) (opens_expr (Expr-F.Number site n)) (plain_part lo hi (omega (arith, l, m)) (λ calls c k scope d st s.
+    if_fresh (nat_le n most_safe) (done_fresh nowhere (Within lo hi) (Within lo hi) d st (given (int (pos n))) s tt tt) (leaves_fresh nowhere (Within lo hi) (Within lo hi) d site why.Size st (λ g. (l, m)) s)))
 
 pub null_part : (lo hi site : ℕ) → lo ≤ hi → Part lo hi (expr (e.Null site))
 null_part lo hi site l =

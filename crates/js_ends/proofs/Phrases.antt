@@ -111,7 +111,7 @@ static_key z _ _ _ (static_text ts text start close at rest h i) r =
 static_key z _ _ _ (static_number ts n start close at rest h i) r =
     let a = begun z ts (k.Number n) start close h r in
     let b = begun z close k.CloseSquare at rest i a.rising in
-    record { rising = b.rising; le = omega (arith, a.is, a.less, b.is, b.less); found = number_part (place z ts) (place z rest) start n (omega (arith, a.is, a.less, b.is, b.less)) }
+    record { rising = b.rising; le = omega (arith, a.is, a.less, b.is, b.less); found = number_part (place z ts) (place z rest) start n (omega (arith, a.is)) (omega (arith, a.less, b.is, b.less)) }
 
 -- a word that is a value
 pub word_value : (z : ℕ) (ts : List Token) (site : ℕ) (rest : List Token) (x : Expr) → Begun z ts site rest →

@@ -245,7 +245,9 @@ mutual
   primary_at P keeps z _ _ _ _ _ (primary_null d c ts site rest h) r = word_value z ts site rest _ (worded z ts word.Null site rest h r) (λ lo hi l. null_part lo hi site l)
   primary_at P keeps z _ _ _ _ _ (primary_true d c ts site rest h) r = word_value z ts site rest _ (worded z ts word.True site rest h r) (λ lo hi l. true_part lo hi site l)
   primary_at P keeps z _ _ _ _ _ (primary_false d c ts site rest h) r = word_value z ts site rest _ (worded z ts word.False site rest h r) (λ lo hi l. false_part lo hi site l)
-  primary_at P keeps z _ _ _ _ _ (primary_number d c ts n site rest h) r = word_value z ts site rest _ (begun z ts (k.Number n) site rest h r) (λ lo hi l. number_part lo hi site n l)
+  primary_at P keeps z _ _ _ _ _ (primary_number d c ts n site rest h) r =
+      let a = begun z ts (k.Number n) site rest h r in
+      record { rising = a.rising; le = omega (arith, a.is, a.less); found = number_part (place z ts) (place z rest) site n (omega (arith, a.is)) a.less }
   primary_at P keeps z _ _ _ _ _ (primary_text d c ts text site rest h) r =
       let a = begun z ts (k.Text text) site rest h r in
       record { rising = a.rising; le = omega (arith, a.is, a.less); found = text_part (place z ts) (place z rest) site text (omega (arith, a.is)) a.less }

@@ -10,6 +10,7 @@ use Rattle.js_ast.specs.declared.parts.Catch.{Catch}
 use Rattle.js_ast.specs.declared.parts.Identifier.{Identifier}
 use Rattle.js_ast.specs.declared.parts.LoopHead.{LoopHead}
 use Rattle.js_ast.specs.declared.parts.LoopHead.TheVariants as head
+use Rattle.js_values.specs.Numbers.{most_safe}
 use Rattle.js_meaning.specs.Values.{Text, Value, undefined, null, truth, int, text, Scope, Body, statements, expression, Code, Place, plain, array}
 use Rattle.js_meaning.specs.Running.{Completion, given, normal, breaks, continues, returns, throws, stops, Outcome, done, bind, leaves, count, new_object, throw, throw_error, play, on_value, its_value, on_reference, text_limit}
 use Rattle.js_meaning.specs.Builtins.{Calls, among, error_names, construct}
@@ -40,6 +41,10 @@ block_of ps = block (trees_of ps) (map (λ p. p.1) ps)
 abbrev pub text_literal : ℕ → Text → Place → Outcome
 text_literal site t st = if nat_le (length t) text_limit then done st (given (text t)) else leaves site why.Size st
 
+-- a whole number above the greatest safe integer leaves the profile; no script spells one
+abbrev pub number_literal : ℕ → ℕ → Place → Outcome
+number_literal site n st = if nat_le n most_safe then done st (given (int (pos n))) else leaves site why.Size st
+
 -- `new` of anything but the constructor of an error leaves the profile, before its arguments
 abbrev pub new_found : {E : Type 0} → (E → Meaning) → ℕ → Identifier → List E → Calls → ℕ → Scope → Found → Place →
     Outcome
@@ -62,7 +67,7 @@ chosen false so other = other
 -- an expression that was counted, by its parts and what they do
 abbrev pub in_expr : Expr-F (Expr × Meaning) (Stmt × Meaning) (Arm × Arms) → Meaning
 in_expr (Expr-F.Name name) calls k scope st = read_name name.site name.name scope st
-in_expr (Expr-F.Number site n) calls k scope st = done st (given (int (pos n)))
+in_expr (Expr-F.Number site n) calls k scope st = number_literal site n st
 in_expr (Expr-F.Text site t) calls k scope st = text_literal site t st
 in_expr (Expr-F.Null site) calls k scope st = done st (given null)
 in_expr (Expr-F.True site) calls k scope st = done st (given (truth true))

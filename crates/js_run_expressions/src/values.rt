@@ -4,7 +4,7 @@ ghost use Rattle.std.specs.Prelude.{◌≡◌, ◌≤◌, ◌<◌, ◌+◌, ◌*
 ghost use Rattle.path_core.specs.declared.path.Why.TheVariants as why;
 ghost use Rattle.term_table.specs.Fitting.{Fits};
 ghost use Rattle.term_table.specs.Views.{View, at as seen_at};
-ghost use Rattle.js_meaning.specs.Meaning.{text_literal};
+ghost use Rattle.js_meaning.specs.Meaning.{number_literal, text_literal};
 ghost use Rattle.js_meaning.specs.Names.{read_name as reading};
 ghost use Rattle.js_meaning.specs.Running.{count as counting, done, given};
 ghost use Rattle.js_meaning.specs.Values.{int};
@@ -26,6 +26,7 @@ use std::alloc::Global;
 use term_table::{Plain, Shadow, Text};
 
 const TEXT_LIMIT: usize = 65_536;
+const MOST_SAFE: u64 = 9_007_199_254_740_991;
 
 /// A name that is read.
 pub(crate) fn name(
@@ -62,20 +63,25 @@ pub(crate) fn constant(state: &mut State, site: u32, value: Shadow) -> Completio
     Completion::Value(value)
 }
 
-/// A whole number that the script spells: at most 2^53 - 1.
+/// A whole number that the script spells. One above 2^53 - 1, which no script spells, leaves the profile.
+#[tactic(auto, using(std::proofs::lemmas::Bool::Decides::nat_tests))]
 pub(crate) fn number(state: &mut State, site: u32, value: u64) -> Completion
-    requires { value ≤ 9007199254740991 }
-    ensures gives { Gives (λ view. counting site (place_of view state.old) (λ st. done st (given (int (pos value))))) state.new result }
+    ensures gives { Gives (λ view. counting site (place_of view state.old) (λ st. number_literal site value st)) state.new result }
     ensures quiet { Quiet state.old state.new }
     ensures falls { Falls state.old [] 1 state.new [] (cost_of_given result) }
     ensures earns { Earns state.old state.new 0 (credit_of_given result) }
     ensures fits { InCompletion (Fits state.new.table) result }
 {
-    let value = Shadow {
+    if !state.count() {
+        return cut(site, Budget::Nodes);
+    }
+    if value > MOST_SAFE {
+        return state.left(site, Why::Size);
+    }
+    Completion::Value(Shadow {
         plain: Plain::Int(value as i64),
         term: None,
-    };
-    constant(state, site, value)
+    })
 }
 
 /// A text that the script spells. One of more than 65,536 units leaves the profile.
