@@ -1,3 +1,4 @@
+pub mod Later
 pub mod Opens
 pub mod Passing
 pub mod Statements
