@@ -120,6 +120,9 @@ frames_later old new fs g a =
 pub frames_same : (old new : Contents) (fs : List Frame) → new.table ≡ old.table → FitFrames old fs → FitFrames new fs
 frames_same old new fs t a = subst (λ (ts : List Term). AllOf (InFrame (Fits ts)) fs) (sym t) a
 
+pub fits_same : (old new : Contents) (s : Shadow) → new.table ≡ old.table → Fits old.table s → Fits new.table s
+fits_same old new s t f = subst (λ (ts : List Term). Fits ts s) (sym t) f
+
 -- ---- a part ends by a row
 
 bind_done : (r : Outcome) → bind r (λ st e. done st e) ≡ r

@@ -19,7 +19,7 @@ use Rattle.js_meaning.specs.Meaning.{caught, finished, block_of}
 use Rattle.js_state.specs.declared.completion.Completion.{Completion}
 use Rattle.js_state.specs.declared.completion.Completion.TheVariants as c
 use Rattle.js_state.specs.declared.completion.Reference.{Reference}
-use Rattle.js_state.specs.Fitting.{IsStop, ErrStops}
+use Rattle.js_state.specs.Fitting.{Shadows, InCompletion, IsStop, ErrStops}
 use Rattle.js_state.specs.Held.{Contents}
 use Rattle.js_state.specs.Seen.{place_of, completion_at, MatchResult}
 use Rattle.js_state.specs.Playing.{Does, Hands, told, Quiet}
@@ -119,3 +119,18 @@ list_none (x ∷ xs) l = absurd (omega (arith, l))
 pub list_more : {A : Type 0} (xs : List A) (x : A) → 1 ≤ length xs → x ≡ get_or xs 0 x → xs ≡ x ∷ take (length xs - 1) (drop 1 xs)
 list_more [] x l e = absurd (omega (arith, l))
 list_more (y ∷ ys) x l e = rw (e, take_all (suc (length ys) - 1) ys (omega arith)) refl
+
+-- ---- a stop fits every table, and brings nothing
+
+pub stop_fits : (P : Shadows) (x : Completion) → IsStop x → InCompletion P x
+stop_fits P (c.Stop end) s = tt
+stop_fits P (c.Value v) s = absurd s
+stop_fits P (c.Refers r) s = absurd s
+stop_fits P c.Normal s = absurd s
+stop_fits P c.Break s = absurd s
+stop_fits P c.Continue s = absurd s
+stop_fits P (c.Return v) s = absurd s
+stop_fits P (c.Throw site v) s = absurd s
+
+pub err_stops : {A : Type 0} {o : Result A Completion} {x : Completion} → ErrStops o → o ≡ Err x → IsStop x
+err_stops {A} {o} {x} s e = subst (λ (o : Result A Completion). ErrStops o) e s
