@@ -74,6 +74,7 @@ part_implied P Q (part.LogicalLeft ls scope) h a = a
 part_implied P Q (part.ConditionalTest site so other scope) h a = a
 part_implied P Q part.ItsValue h a = a
 part_implied P Q (part.BuiltinKey site is_static position name ss scope) h a = a
+part_implied P Q (part.BuiltinTarget site) h a = a
 part_implied P Q (part.NameValue site name scope) h a = a
 part_implied P Q (part.Declared name rest scope) h a = a
 part_implied P Q part.ExpressDone h a = a
@@ -133,3 +134,6 @@ pub plays_out : {old new : Contents} {fs : List Frame} {part : View → Outcome}
 plays_out {old} {new} {fs} {part} {completion} d t =
     both (stays still refl (λ view w. sym (bind_done (part view))))
     (plays (λ view w st e. done st e) d (omega (arith, t)) (λ view w st end. refl))
+
+pub reference_same : (old new : Contents) (r : Reference) → new.table ≡ old.table → InReference (Fits old.table) r → InReference (Fits new.table) r
+reference_same old new r t f = subst (λ (ts : List Term). InReference (Fits ts) r) (sym t) f

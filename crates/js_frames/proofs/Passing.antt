@@ -9,8 +9,9 @@ use Rattle.term_table.specs.declared.shadow.Shadow.{Shadow}
 use Rattle.term_table.specs.declared.shadow.Plain.TheVariants as plain
 use Rattle.term_table.specs.Views.{View, at}
 use Rattle.term_table.proofs.Views.{at_plain}
-use Rattle.js_meaning.specs.Values.{Value, truth, Scope, Place}
-use Rattle.js_meaning.specs.Running.{Completion as Ending, stops, Outcome, done, bind, play, on_value, on_normal}
+use Rattle.js_meaning.specs.Values.{Value, undefined, truth, object, Object, Scope, Place}
+use Rattle.js_meaning.specs.Objects.{bracket_row, get_bracket}
+use Rattle.js_meaning.specs.Running.{Completion as Ending, callee, given, stops, Outcome, done, bind, play, on_value, on_normal}
 use Rattle.js_meaning.specs.Conversions.{to_boolean}
 use Rattle.js_meaning.specs.Operators.{test_row, logical_row}
 use Rattle.js_meaning.specs.Parts.{Meaning, branch}
@@ -134,3 +135,15 @@ stop_fits P (c.Throw site v) s = absurd s
 
 pub err_stops : {A : Type 0} {o : Result A Completion} {x : Completion} → ErrStops o → o ≡ Err x → IsStop x
 err_stops {A} {o} {x} s e = subst (λ (o : Result A Completion). ErrStops o) e s
+
+pub gives_object : (view : View) (st : Place) (o : ℕ) → done st (given (object o)) ≡ done st (completion_at view (c.Value (record { plain = plain.Object o; term = None })))
+gives_object view st o = ap (λ x. done st (given x)) (sym (at_plain view (plain.Object o)))
+
+-- ---- a key in brackets asks for no `this`
+
+bracket_this : (site : ℕ) (is_static : Bool) (x this y : Value) (objects : List Object) → bracket_row site is_static (callee x this) y objects ≡ bracket_row site is_static (callee x undefined) y objects
+unfolding bracket_row
+bracket_this site is_static x this y objects = refl
+
+pub brackets : (site : ℕ) (is_static : Bool) (x this : Value) → get_bracket site is_static (callee x this) ≡ get_bracket site is_static (callee x undefined)
+brackets site is_static x this = λ i y st. play (bracket_this site is_static x this y st.objects i) st

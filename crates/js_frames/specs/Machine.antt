@@ -15,7 +15,7 @@ use Rattle.js_ast.specs.declared.parts.LoopHead.TheVariants as head
 use Rattle.js_ast.specs.declared.parts.Catch.{Catch}
 use Rattle.js_ast.specs.declared.operators.DeclarationKind.TheVariants.{Let, Const}
 use Rattle.js_meaning.specs.Values.{Text, Value, undefined, object, Scope, Place}
-use Rattle.js_meaning.specs.Running.{Reference as Referred, callee, intrinsic, Completion as Ending, given, normal, returns, Outcome, done, bind, on_value, its_value, on_reference, on_normal, throw, play, count}
+use Rattle.js_meaning.specs.Running.{Reference as Referred, callee, intrinsic, Completion as Ending, given, normal, returns, Outcome, done, bind, on_value, its_value, on_reference, on_normal, throw, leaves, play, count}
 use Rattle.js_meaning.specs.Builtins.{Calls, construct}
 use Rattle.js_meaning.specs.Objects.{written, add_item, add_property, get_bracket}
 use Rattle.js_meaning.specs.Operators.{unary_row}
@@ -162,6 +162,7 @@ part_of view w (part.IndexKey site is_static base ss scope) y st =
 part_of view w (part.BuiltinKey site is_static position name ss scope) y st =
     bind (get_bracket site is_static (intrinsic position (builtin_text name)) y st) (on_reference (on_chain w ss.now scope))
 part_of view w (part.TargetKey site is_static base g scope) y st = reached w g scope (bracket_aim site is_static (at view base) y) st
+part_of view w (part.BuiltinTarget site) x st = leaves site why.Builtin st
 part_of view w (part.NameValue site name scope) x st = put_aim (scope_of scope) (name_aim site name.now) x st
 part_of view w (part.PropertyValue site base name) x st =
     put_aim (record { cell = None; this = undefined }) (property_aim site (at view base) name.now) x st

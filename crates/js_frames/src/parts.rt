@@ -130,6 +130,10 @@ pub enum Part<'a> {
         goal: Goal<'a>,
         scope: Scope,
     },
+    /// The key of a target in brackets behind a built-in name.
+    BuiltinTarget {
+        site: u32,
+    },
     /// The value of a name that is written.
     NameValue {
         site: u32,

@@ -48,6 +48,18 @@ pub fn number_value(n: Option<i64>) -> Plain
     }
 }
 
+/// The old number of `++` and `--` behind their target (section 13.4.2.1); NaN where the value has none.
+pub fn old_number(value: &Plain) -> Plain
+    requires { IsValue value.now }
+    ensures value { plain_value result ≡ old_number (plain_value value.now) }
+    ensures fits { IsValue result }
+{
+    match to_number(value) {
+        Some(number) => number_value(number),
+        None => Plain::NotNumber,
+    }
+}
+
 fn constant(alloc: Global, text: &str) -> Result<Text, NoMemory>
     ensures { IfOk result (λ made. made ≡ text.now) }
 {

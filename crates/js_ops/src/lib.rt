@@ -12,5 +12,5 @@ mod shadows;
 mod texts;
 mod two_operands;
 
-pub use conversions::{is_nullish, to_boolean};
+pub use conversions::{is_nullish, old_number, to_boolean};
 pub use shadows::{binary, step, to_flag, to_text, unary};

@@ -1,7 +1,7 @@
 //! The table of built-ins: names, listed properties of names, and methods.
 
 ghost use Rattle.std.specs.Prelude.{◌≡◌, MatchOption, true, false, List};
-ghost use Rattle.js_meaning.specs.Builtins.{is_builtin, is_static, is_method};
+ghost use Rattle.js_meaning.specs.Builtins.{among, error_names, is_builtin, is_static, is_method};
 ghost use Rattle.js_state.specs.Builtins.{builtin_text, owner_of, key_of, method_text};
 
 use js_units::Units;
@@ -188,6 +188,19 @@ pub fn builtin_of(name: &Units) -> Option<Builtin>
         left = rest;
     }
     None
+}
+
+/// Whether the name is the constructor of an error.
+pub fn is_error(builtin: Builtin) -> bool
+    ensures { result ≡ among (builtin_text builtin) error_names }
+{
+    match builtin {
+        Builtin::Error => true,
+        Builtin::TypeError => true,
+        Builtin::RangeError => true,
+        Builtin::ReferenceError => true,
+        _ => false,
+    }
 }
 
 /// The method of this name, if the table has one.

@@ -1,11 +1,12 @@
 //! Names: bindings, and where a name is found (ECMA-262, section 9.1).
 
-ghost use Rattle.std.specs.Prelude.{◌≡◌, ◌≤◌, ◌<◌, ℕ, Bool, List, Option, Some, None, option_map, option_copied, length, map, slice_get, slice_set, is_some, true, false, IfOk, IfSome, OnSome};
+ghost use Rattle.std.specs.Prelude.{◌≡◌, ◌≤◌, ◌<◌, ℕ, Bool, List, Option, Some, None, option_map, option_copied, length, map, slice_get, slice_set, is_some, true, false, IfOk, IfSome, OnSome, MatchOption};
 ghost use Rattle.term_table.specs.Fitting.{Fits};
 ghost use Rattle.term_table.specs.Views.{View, at as seen_at};
 ghost use Rattle.term_table.specs.declared.shadow.Shadow.{Shadow as SpecShadow};
 ghost use Rattle.js_meaning.specs.Loops.{value_of as valued};
-ghost use Rattle.js_meaning.specs.Names.{resolve as resolving, binding_of as bound_by, read_found, put_found, found_input, open_cell as opening, read_name as reading, put_name as putting, init_name as initialising};
+ghost use Rattle.js_meaning.specs.Names.{resolve as resolving, binding_of as bound_by, read_found, put_found, found_input, open_cell as opening, read_name as reading, put_name as putting, init_name as initialising, find_name as finding, listed};
+ghost use Rattle.js_state.specs.Builtins.{builtin_text};
 ghost use Rattle.js_meaning.specs.Objects.{look_up};
 ghost use Rattle.js_meaning.specs.Running.{Outcome, done};
 ghost use Rattle.js_meaning.specs.Values.{Place, Scope as SpecScope, Value as SpecValue};
@@ -169,6 +170,20 @@ impl<'a> State<'a> {
 }
 
 impl<'a> State<'a> {
+    /// The built-in name that a name stands for, where it is neither bound nor an input.
+    #[tactic(auto, unfolding(js_meaning::specs::Names::find_name))]
+    pub fn listed(&self, name: &Units, scope: Scope) -> Option<Builtin>
+        ensures { (view : View) → MatchOption result (finding (scope_of scope) name.now (place_of view self.now) ≡ listed → ⊥) (λ b. (finding (scope_of scope) name.now (place_of view self.now) ≡ listed) × (builtin_text b ≡ name.now)) }
+    {
+        if self.binding_of(scope, name).is_some() {
+            return None;
+        }
+        if supplied(self.inputs.as_slice(), name).is_some() {
+            return None;
+        }
+        builtin_of(name)
+    }
+
     /// The value of a name, or what it refers to (ECMA-262, section 9.1.1.1.6).
     #[tactic(auto, unfolding(js_meaning::specs::Names::read_name, js_meaning::specs::Names::find_name))]
     pub fn read_name(

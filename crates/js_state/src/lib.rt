@@ -18,7 +18,7 @@ mod state;
 mod writing;
 
 pub use budgets::cut;
-pub use builtins::{Builtin, Method, Static};
+pub use builtins::{Builtin, Method, Static, is_error};
 pub use closure::{Closure, Code, Scope};
 pub use completion::{Completion, Reference};
 pub use held::{Bound, RunMove, Supplied};

@@ -4,12 +4,12 @@ ghost use Rattle.std.specs.Prelude.{◌≡◌, ◌≤◌, IfOk, ℕ, [], List, O
 ghost use Rattle.path_core.specs.declared.path.ErrorName.{ErrorName as SpecErrorName};
 ghost use Rattle.js_meaning.specs.Builtins.{among, is_static as statics};
 ghost use Rattle.js_meaning.specs.Objects.{other as others, own_or_undefined, own_or_other, length_or, message_row, error_row, error_text as named, look_up, get_own as getting_own, get_row as getting, may_have_methods as methods_of, bracket_method as bracketed, property_row, bracket_row, inherited_names, object_at as object_in};
-ghost use Rattle.js_meaning.specs.Running.{comes_to, ending, static, intrinsic, callee, done, play as playing};
-ghost use Rattle.js_meaning.specs.Values.{Value as SpecValue, text as a_text, int, object as an_object};
+ghost use Rattle.js_meaning.specs.Running.{comes_to, ending, static, intrinsic, callee, done, bind, on_value, Outcome, play as playing};
+ghost use Rattle.js_meaning.specs.Values.{Place, Value as SpecValue, text as a_text, int, object as an_object};
 ghost use Rattle.term_table.specs.Fitting.{Fits};
 ghost use Rattle.term_table.specs.declared.term.Term.{Term};
 ghost use Rattle.term_table.specs.Views.{View, at as seen_at};
-ghost use Rattle.js_state.specs.Fitting.{InCompletion, InReference, InSome, IsReached};
+ghost use Rattle.js_state.specs.Fitting.{InCompletion, InReference, InSome, IsReached, IsStop};
 ghost use Rattle.js_state.specs.Playing.{Still};
 ghost use Rattle.js_meaning.specs.Path.{thrown_of};
 ghost use Rattle.js_state.specs.Builtins.{builtin_text};
@@ -417,6 +417,39 @@ impl<'a> State<'a> {
             }
         }
         Ok(self.left(site, Why::Key))
+    }
+
+    fn method_value(&self, site: u32, base: &Shadow, key: &Units) -> Completion
+        requires { Fits self.now.table base.now }
+        ensures gives { (view : View) (go : SpecValue → Place → Outcome) → bind (playing (bracketed site (seen_at view base.now) (Some key.now) (place_of view self.now).objects) (place_of view self.now)) (on_value go) ≡ done (place_of view self.now) (completion_at view result) }
+        ensures stops { IsStop result }
+    {
+        match method_of(key) {
+            None => self.left(site, Why::Key),
+            Some(_) => {
+                if self.may_have_methods(base) {
+                    self.left(site, Why::Builtin)
+                } else {
+                    self.left(site, Why::Key)
+                }
+            }
+        }
+    }
+
+    /// A property of a value in brackets whose value is asked for: so far that leaves the profile.
+    #[tactic(auto, unfolding(js_meaning::specs::Objects::bracket_row))]
+    pub fn bracket_value(&self, site: u32, is_static: bool, base: &Shadow, key: &Shadow) -> Completion
+        requires base { Fits self.now.table base.now }
+        requires key { Fits self.now.table key.now }
+        ensures gives { (view : View) (this : SpecValue) (go : SpecValue → Place → Outcome) → bind (playing (bracket_row site is_static (callee (seen_at view base.now) this) (seen_at view key.now) (place_of view self.now).objects) (place_of view self.now)) (on_value go) ≡ done (place_of view self.now) (completion_at view result) }
+        ensures stops { IsStop result }
+    {
+        if is_static {
+            if let Base::Text(text) = base_of(&key.plain) {
+                return self.method_value(site, base, text.units());
+            }
+        }
+        self.left(site, Why::Key)
     }
 
     /// A property of a built-in name in brackets.

@@ -3,7 +3,7 @@
 ghost use Rattle.std.specs.Prelude.{◌≡◌, ◌≤◌, ◌+◌, length, IfOk, MatchOption, Bool, List, ℕ};
 ghost use Rattle.js_ast.specs.declared.operators.UnaryOp.TheVariants.{TypeOf};
 ghost use Rattle.js_meaning.specs.Conversions.{is_text};
-ghost use Rattle.js_meaning.specs.Operators.{branch_row, test_row, logical_row, binary_row, is_join, unary_row, step_row};
+ghost use Rattle.js_meaning.specs.Operators.{branch_row, test_row, logical_row, binary_row, is_join, unary_row, step_row, old_number};
 ghost use Rattle.js_meaning.specs.Objects.{is_callable as callable};
 ghost use Rattle.js_meaning.specs.Parts.{apply, noted};
 ghost use Rattle.js_meaning.specs.Running.{giving, play as playing};
@@ -155,6 +155,18 @@ impl<'a> State<'a> {
         let outcome = self.ask_step(site, op, a)?;
         let completion = self.play(site, outcome)?;
         Ok(completion)
+    }
+
+    /// The old number of `++` and `--`, which is their value where they stand behind their target.
+    pub fn old_number(&self, value: &Shadow) -> Shadow
+        requires { Fits self.now.table value.now }
+        ensures value { (view : View) → seen_at view result ≡ old_number (seen_at view value.now) }
+        ensures fits { Fits self.now.table result }
+    {
+        Shadow {
+            plain: js_ops::old_number(&value.plain),
+            term: None,
+        }
     }
 
     /// Makes the event of a test.

@@ -1,0 +1,29 @@
+use Rattle.std.proofs.Common.{arith, refl, ◌≡◌, map, ◌∙◌, ap, sym, rules, subst, true, false, Ok, Err, take, drop, length, ◌-◌}
+use Rattle.term_table.specs.Fitting.{Fits}
+use Rattle.term_table.specs.Views.{at}
+use Rattle.js_meaning.specs.Running.{on_value, on_reference, bind, its_value, play, done}
+use Rattle.js_meaning.specs.Operators.{goes_on, logical_row, test_row}
+use Rattle.js_meaning.specs.Conversions.{to_boolean}
+use Rattle.js_meaning.specs.Parts.{decided, elements, members, gather}
+use Rattle.js_meaning.specs.Meaning.{expr, chosen}
+use Rattle.js_state.specs.Held.{scope_of}
+use Rattle.js_state.specs.Seen.{place_of, reference_at}
+use Rattle.js_frames.specs.Machine.{calling, doing, on_links, on_logical, on_chain, on_member, aimed, part_of}
+use Rattle.js_frames.proofs.Steps.{stays, pushes, leads, both, plays, quiet_both, quiet_of, where_true, where_false, still}
+use Rattle.js_frames.proofs.Passing.{tells, gives_object, list_none, list_more, stop_fits, err_stops}
+use Rattle.js_frames.proofs.Later.{plays_out, frames_later, frames_same, fits_same, fits_later}
+use Rattle.js_frames.proofs.Opens as opens
+use Rattle.js_state.proofs.Found.{result_ok, result_err}
+use Rattle.js_run_expressions.proofs.lists.element.Goals as goal
+
+pub returns-in-Err-clause-leads : goal.returns-in-Err-clause-leads
+returns-in-Err-clause-leads c = leads (stays (quiet_of c.in_ok-added.ensures.still) refl (λ view w. result_err view _ _ _ c.in-Err.is (c.in_ok-added.ensures.goes view _)))
+
+pub returns-in_ok-work-in-Ok-clause-leads : goal.returns-in_ok-work-in-Ok-clause-leads
+returns-in_ok-work-in-Ok-clause-leads c = leads (both (stays (quiet_of c.in_ok-added.ensures.still) refl (λ view w. result_ok view _ _ _ _ c.in-Ok.is (c.in_ok-added.ensures.goes view _))) (c.in_ok-work-in-Ok.ensures.leads c.add_item.new.self).to)
+
+pub returns-in_ok-work-in-Ok-clause-fits : goal.returns-in_ok-work-in-Ok-clause-fits
+returns-in_ok-work-in-Ok-clause-fits c = c.in_ok-work-in-Ok.ensures.fits c.add_item.new.self (frames_same c.args.state.now c.add_item.new.self c.args.frames.now c.in_ok-added.ensures.still.table c.requires.frames)
+
+pub returns-in-Err-clause-fits : goal.returns-in-Err-clause-fits
+returns-in-Err-clause-fits c = (frames_same c.args.state.now c.add_item.new.self c.args.frames.now c.in_ok-added.ensures.still.table c.requires.frames, stop_fits (Fits c.add_item.new.self.table) c.in-Err.completion (err_stops c.in_ok-added.ensures.stops c.in-Err.is))
