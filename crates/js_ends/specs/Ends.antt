@@ -4,32 +4,22 @@ use Rattle.path_core.specs.declared.path.End.{End}
 use Rattle.path_core.specs.declared.path.InputValue.{InputValue}
 use Rattle.path_core.specs.declared.bounds.Bounds.{Bounds}
 use Rattle.js_ast.specs.declared.statement.Script.{Script}
-use Rattle.js_ast.specs.declared.statement.Stmt.{Stmt}
 use Rattle.js_grammar.specs.declared.token.Token.{Token}
-use Rattle.js_grammar.specs.Grammar.{Shape, ShallowShape}
 use Rattle.js_meaning.specs.Values.{Answers}
 use Rattle.js_meaning.specs.Running.{Item, passed, made, Outcome}
 use Rattle.js_meaning.specs.Path.{run_of, end_of}
 
--- ---- scripts that are spelt
+-- ---- tokens of a text
 
-abbrev pub IsBefore : ℕ → List Token → Type 0
-IsBefore n [] = Unit {0}
-IsBefore n (t ∷ ts) = n < t.start
+-- the place of the first token, or of the end
+abbrev pub place : ℕ → List Token → ℕ
+place end [] = end
+place end (t ∷ ts) = t.start
 
--- each token stands behind the one before it, as the tokens of a text do
-abbrev pub AreRising : List Token → Type 0
-AreRising [] = Unit {0}
-AreRising (t ∷ ts) = IsBefore t.start ts × AreRising ts
-
--- whatever the nesting of the tokens, or with none deeper than 200
-abbrev pub HasShape : List Token → List Stmt → Type 0
-HasShape tokens body = Shape tokens body ⊎ ShallowShape tokens body
-
--- the tokens are the script's, each at a place of its own
-pub record IsSpelt (tokens : List Token) (script : Script) : Type 0 where
-  pub shape : HasShape tokens script.body
-  pub rising : AreRising tokens
+-- each token stands before the one behind it, and the last before the end
+abbrev pub AreRising : ℕ → List Token → Type 0
+AreRising end [] = Unit {0}
+AreRising end (t ∷ ts) = (t.start < place end ts) × AreRising end ts
 
 -- ---- the law
 
