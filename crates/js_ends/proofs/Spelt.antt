@@ -1,5 +1,5 @@
 -- What the grammar spells over tokens whose places rise keeps exits apart, by recursion on what is spelt.
-use Rattle.std.proofs.Common.{ℕ, suc, inl, inr, Bool, true, false, List, [], map, Option, Some, None, option_map, subst, arith}
+use Rattle.std.proofs.Common.{ℕ, suc, inl, inr, true, false, List, [], map, Option, Some, None, option_map, subst, arith}
 use Rattle.js_ast.specs.declared.expression.Expr.{Expr}
 use Rattle.js_ast.specs.declared.statement.Stmt.{Stmt}
 use Rattle.js_ast.specs.declared.statement.Arm.{Arm}
