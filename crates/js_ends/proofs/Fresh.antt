@@ -14,7 +14,7 @@ use Rattle.js_meaning.specs.Values.{Body, statements, expression, Class, functio
 use Rattle.js_meaning.specs.Running.{Item, passed, made, Completion, given, refers, normal, breaks, continues, returns, throws, stops, Outcome, done, bind}
 use Rattle.js_meaning.specs.Meaning.{most_ended}
 use Rattle.js_meaning.specs.Apart.{Sites, Guarding, Silent, used_at, UseIn}
-use Rattle.js_ends.specs.Ends.{AreRising}
+use Rattle.js_ends.specs.Places.{AreRising}
 
 -- ---- the law, of outcomes
 

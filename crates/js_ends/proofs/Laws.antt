@@ -19,7 +19,8 @@ use Rattle.js_meaning.specs.Meaning.{most_ended, stmts, body_of, calls_in, outer
 use Rattle.js_meaning.specs.Path.{start, end_of, run_of}
 use Rattle.js_meaning.specs.Apart.{Sites, nowhere, only, anywhere, Silent}
 use Rattle.js_parser.specs.Spelling.{Spells}
-use Rattle.js_ends.specs.Ends.{place, IsAgain, AreApart, RunEndsApart}
+use Rattle.js_ends.specs.Places.{place}
+use Rattle.js_ends.specs.Ends.{IsAgain, AreApart, RunEndsApart}
 use Rattle.js_ends.proofs.Fresh.{Named, Apart, moment, To, Last, GoesOn, SpeltStatements, SpeltBody, SoundObject, Stands, Fresh, fresh_wider, stops_or_goes}
 use Rattle.js_ends.proofs.Forms.{done_fresh}
 use Rattle.js_ends.proofs.Binds.{Within}

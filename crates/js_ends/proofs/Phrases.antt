@@ -23,7 +23,7 @@ use Rattle.js_meaning.proofs.Opens.{with_expr, with_stmt}
 use Rattle.js_meaning.proofs.Known.{link_with, member_with, access_with, suffix_with, target_with}
 use Rattle.js_meaning.proofs.KnownStatements.{declarator_with}
 use Rattle.js_meaning.proofs.KnownForms.{head_with, catch_with}
-use Rattle.js_ends.specs.Ends.{place, AreRising}
+use Rattle.js_ends.specs.Places.{place, AreRising}
 use Rattle.js_ends.proofs.Fresh.{SpeltStatements}
 use Rattle.js_ends.proofs.Forms.{count_fresh, Used}
 use Rattle.js_ends.proofs.Binds.{Within}

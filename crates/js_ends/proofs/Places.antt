@@ -9,7 +9,7 @@ use Rattle.js_grammar.specs.declared.token.TokenKind.TheVariants as k
 use Rattle.js_grammar.specs.declared.token.Word.{Word}
 use Rattle.js_grammar.specs.Phrases.{Begins, Beside, IsWord, IsIdentifier, IsIdentifierName, start_of, Tail, IsEnd, IsDoEnd}
 use Rattle.js_grammar.specs.Grammar.{IsNames, names_none, names_last, names_more, IsParameters, IsArrowParameters, parameters_one, parameters_none, parameters_round, IsOptionalName, name_none, name_some, IsDeclares, declares_let, declares_const, IsKey, key_word, key_text, key_number}
-use Rattle.js_ends.specs.Ends.{place, AreRising}
+use Rattle.js_ends.specs.Places.{place, AreRising}
 use Rattle.js_ends.proofs.Binds.{Within}
 use Rattle.js_ends.proofs.Blocks.{NameIn}
 

@@ -26,7 +26,7 @@ use Rattle.js_meaning.specs.Meaning.{meaning_of, expr, stmts}
 use Rattle.js_meaning.proofs.Opens.{with_expr}
 use Rattle.js_meaning.proofs.Known.{member_with, target_with}
 use Rattle.js_meaning.proofs.KnownStatements.{declarator_with}
-use Rattle.js_ends.specs.Ends.{place, AreRising}
+use Rattle.js_ends.specs.Places.{place, AreRising}
 use Rattle.js_ends.proofs.Fresh.{limit, SpeltStatements, SpeltExpression}
 use Rattle.js_ends.proofs.Lists.{Part, part_wider}
 use Rattle.js_ends.proofs.Aims.{TargetIn}

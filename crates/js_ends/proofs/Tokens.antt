@@ -13,7 +13,7 @@ use Rattle.js_parser.specs.Places.{byte_at}
 use Rattle.js_parser.specs.Tokens.{IsKindBy, IsToken}
 use Rattle.js_parser.specs.Spelling.{IsTokens, tokens_none, tokens_more}
 use Rattle.js_parser.proofs.Offsets.{offset_on, offset_within}
-use Rattle.js_ends.specs.Ends.{place, AreRising}
+use Rattle.js_ends.specs.Places.{place, AreRising}
 
 -- ---- a unit has a byte at least
 

@@ -1,27 +1,12 @@
 -- An end tells which guard failed: between two events of a path no exit is named twice.
-use Rattle.std.specs.Prelude.{ℕ, ◌≡◌, ◌<◌, ◌⊎◌, List, [], ◌∷◌}
+use Rattle.std.specs.Prelude.{◌≡◌, ◌⊎◌, List, [], ◌∷◌}
 use Rattle.path_core.specs.declared.path.End.{End}
 use Rattle.path_core.specs.declared.path.InputValue.{InputValue}
 use Rattle.path_core.specs.declared.bounds.Bounds.{Bounds}
 use Rattle.js_ast.specs.declared.statement.Script.{Script}
-use Rattle.js_grammar.specs.declared.token.Token.{Token}
 use Rattle.js_meaning.specs.Values.{Answers}
 use Rattle.js_meaning.specs.Running.{Item, passed, made, Outcome}
 use Rattle.js_meaning.specs.Path.{run_of, end_of}
-
--- ---- tokens of a text
-
--- the place of the first token, or of the end
-abbrev pub place : ℕ → List Token → ℕ
-place end [] = end
-place end (t ∷ ts) = t.start
-
--- each token stands before the one behind it, and the last before the end
-abbrev pub AreRising : ℕ → List Token → Type 0
-AreRising end [] = Unit {0}
-AreRising end (t ∷ ts) = (t.start < place end ts) × AreRising end ts
-
--- ---- the law
 
 -- an exit is passed among these items before their next event, or is the end there
 abbrev pub IsAgain : End → List Item → End → Type 0

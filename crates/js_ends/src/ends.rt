@@ -9,7 +9,8 @@ ghost use Rattle.path_core.specs.declared.bounds.Bounds.{Bounds as SpecBounds};
 ghost use Rattle.path_core.specs.declared.path.InputValue.{InputValue as SpecInputValue};
 ghost use Rattle.js_meaning.specs.Values.{Answers};
 ghost use Rattle.js_meaning.specs.Meaning.{most_ended};
-ghost use Rattle.js_ends.specs.Ends.{AreRising, RunEndsApart};
+ghost use Rattle.js_ends.specs.Places.{AreRising};
+ghost use Rattle.js_ends.specs.Ends.{RunEndsApart};
 
 /// The tokens of a text, from any place on, stand one behind another, as byte offsets, and the last before the text's end.
 pub fn tokens_rise()
