@@ -1,5 +1,5 @@
 -- Parts of a run behind one another, where each keeps its exits apart.
-use Rattle.std.proofs.Common.{ℕ, ◌+◌, ◌-◌, ◌*◌, ◌≡◌, ◌≤◌, ◌<◌, ◌⊎◌, inl, inr, Bool, true, false, List, [], ◌∷◌, ◌++◌, All, Option, Some, None, refl, ap, sym, subst, ◌∙◌, arith}
+use Rattle.std.proofs.Common.{ℕ, ◌+◌, ◌-◌, ◌*◌, ◌≡◌, ◌≤◌, ◌<◌, ◌⊎◌, inl, inr, List, [], ◌∷◌, ◌++◌, All, Option, Some, None, refl, ap, sym, subst, ◌∙◌, arith}
 use Rattle.std.proofs.lemmas.List.{append-nil}
 use Rattle.path_core.specs.declared.path.End.{End}
 use Rattle.path_core.specs.declared.path.End.TheVariants.{Left, Done, Threw, Cut}
@@ -14,6 +14,7 @@ use Rattle.js_meaning.specs.Values.{Body, statements, expression, Class, functio
 use Rattle.js_meaning.specs.Running.{Item, passed, made, Completion, given, refers, normal, breaks, continues, returns, throws, stops, Outcome, done, bind}
 use Rattle.js_meaning.specs.Meaning.{most_ended}
 use Rattle.js_meaning.specs.Apart.{Sites, Guarding, Silent, used_at, UseIn}
+use Rattle.js_ends.specs.Places.{AreRising}
 
 -- ---- the law, of outcomes
 
@@ -73,40 +74,28 @@ Waits Q _ = Unit {0}
 
 -- ---- places that are in order
 
--- how deep a token may nest: without a bound, or not deeper than 200
-abbrev pub limit : Bool → ℕ → Type 0
-limit true n = Unit {0}
-limit false n = n ≤ 200
-
--- the place of the first token, or of the end
-abbrev pub place : ℕ → List Token → ℕ
-place end [] = end
-place end (t ∷ ts) = t.start
-
-abbrev pub Rising : ℕ → List Token → Type 0
-Rising end [] = Unit {0}
-Rising end (t ∷ ts) = (t.start < place end ts) × Rising end ts
+-- how deep a token of a script may nest
+abbrev pub limit : ℕ → Type 0
+limit n = n ≤ 200
 
 pub record SpeltStatements (ss : List Stmt) : Type 0 where
-  pub deep : Bool
   pub end : ℕ
   pub depth : ℕ
   pub context : Context
   pub tokens : List Token
   pub rest : List Token
-  pub rising : Rising end tokens
-  pub spelt : IsStmts (limit deep) depth context tokens ss rest
+  pub rising : AreRising end tokens
+  pub spelt : IsStmts limit depth context tokens ss rest
 
 pub record SpeltExpression (e : Expr) : Type 0 where
-  pub deep : Bool
   pub end : ℕ
   pub depth : ℕ
   pub context : Context
   pub tokens : List Token
   pub tail : Tail
   pub rest : List Token
-  pub rising : Rising end tokens
-  pub spelt : IsAssign (limit deep) depth context tokens e tail rest
+  pub rising : AreRising end tokens
+  pub spelt : IsAssign limit depth context tokens e tail rest
 
 -- what a function does is spelt
 abbrev pub SpeltBody : Body → Type 0

@@ -1,6 +1,8 @@
 -- The law on ends, of calls and of whole runs.
-use Rattle.std.proofs.Common.{ℕ, zero, suc, ◌≡◌, ◌≤◌, ◌<◌, ◌⊎◌, inl, inr, true, false, List, [], ◌∷◌, Option, Some, refl, sym, subst, arith}
+use Rattle.std.proofs.Common.{ℕ, zero, suc, ◌≡◌, ◌≤◌, ◌⊎◌, inl, inr, List, [], ◌∷◌, Option, Some, refl, sym, subst, arith}
 use Rattle.std.proofs.lemmas.List.Elements.{All-nil}
+use Rattle.js_units.specs.Utf8.{utf8_size}
+use Rattle.js_units.specs.CodeUnits.{code_units}
 use Rattle.path_core.specs.declared.bounds.Bounds.{Bounds}
 use Rattle.path_core.specs.declared.path.Budget.TheVariants as budget
 use Rattle.path_core.specs.declared.path.End.{End}
@@ -8,7 +10,6 @@ use Rattle.path_core.specs.declared.path.End.TheVariants.{Cut}
 use Rattle.path_core.specs.declared.path.InputValue.{InputValue}
 use Rattle.js_ast.specs.declared.statement.Script.{Script}
 use Rattle.js_ast.specs.declared.statement.Stmt.{Stmt}
-use Rattle.js_grammar.specs.declared.token.Token.{Token}
 use Rattle.js_grammar.specs.Phrases.{outermost as outermost_context}
 use Rattle.js_meaning.specs.Values.{Body, statements, expression, Code, Answers, Place}
 use Rattle.js_meaning.specs.Running.{Item, passed, made, Completion, given, refers, normal, breaks, continues, returns, throws, stops, done}
@@ -17,13 +18,16 @@ use Rattle.js_meaning.specs.Objects.{code_of}
 use Rattle.js_meaning.specs.Meaning.{most_ended, stmts, body_of, calls_in, outermost, whole_of}
 use Rattle.js_meaning.specs.Path.{start, end_of, run_of}
 use Rattle.js_meaning.specs.Apart.{Sites, nowhere, only, anywhere, Silent}
-use Rattle.js_ends.specs.Ends.{IsBefore, AreRising, HasShape, IsSpelt, IsAgain, AreApart, RunEndsApart}
-use Rattle.js_ends.proofs.Fresh.{Named, Apart, moment, To, Last, GoesOn, place, Rising, SpeltStatements, SpeltBody, SoundObject, Stands, Fresh, fresh_wider, stops_or_goes}
+use Rattle.js_parser.specs.Spelling.{Spells}
+use Rattle.js_ends.specs.Places.{place}
+use Rattle.js_ends.specs.Ends.{IsAgain, AreApart, RunEndsApart}
+use Rattle.js_ends.proofs.Fresh.{Named, Apart, moment, To, Last, GoesOn, SpeltStatements, SpeltBody, SoundObject, Stands, Fresh, fresh_wider, stops_or_goes}
 use Rattle.js_ends.proofs.Forms.{done_fresh}
 use Rattle.js_ends.proofs.Binds.{Within}
 use Rattle.js_ends.proofs.Lists.{CallsFresh, part_value}
 use Rattle.js_ends.proofs.Blocks.{block_part, BodyFresh, call_fresh, SoundCode, code_sound}
 use Rattle.js_ends.proofs.Spelt.{statements_between, expression_between}
+use Rattle.js_ends.proofs.Tokens.{tokens_rise}
 
 -- ---- calls
 
@@ -115,32 +119,14 @@ apart_path T m st c items p l = here (stops_or_goes c)
     here (inl g) = apart_goes T m st c items g p (l g)
     here (inr q) = subst (λ c. AreApart items (end_of st c)) (sym q.1) (apart_stopped q.0 items (subst (λ c. Apart items c) q.1 p))
 
--- ---- tokens with a place behind them all
+-- ---- scripts of texts
 
-after_all : ℕ → List Token → ℕ
-after_all n [] = suc n
-after_all n (t ∷ ts) = after_all t.start ts
+spelt_script : (bytes : List ℕ) (script : Script) → Spells bytes script → SpeltStatements script.body
+spelt_script bytes script h =
+    record { end = utf8_size (code_units bytes); depth = 0; context = outermost_context; tokens = h.spelt.tokens; rest = []; rising = tokens_rise (code_units bytes) 0 h.spelt.tokens h.spelt.tokens_are; spelt = h.spelt.shape }
 
-before_rest : (n : ℕ) (ts : List Token) → IsBefore n ts → n < place (after_all n ts) ts
-unfolding after_all
-before_rest n [] b = omega arith
-before_rest n (t ∷ ts) b = b
-
-all_rising : (n : ℕ) (ts : List Token) → AreRising ts → Rising (after_all n ts) ts
-unfolding after_all
-all_rising n [] h = tt
-all_rising n (t ∷ ts) h = (before_rest t.start ts h.0, all_rising t.start ts h.1)
-
-spelt_script : (tokens : List Token) (script : Script) → IsSpelt tokens script → SpeltStatements script.body
-spelt_script tokens script h = here h.shape
-  where
-    here : HasShape tokens script.body → SpeltStatements script.body
-    here (inl s) = record { deep = true; end = after_all 0 tokens; depth = 0; context = outermost_context; tokens = tokens; rest = []; rising = all_rising 0 tokens h.rising; spelt = s }
-    here (inr s) = record { deep = false; end = after_all 0 tokens; depth = 0; context = outermost_context; tokens = tokens; rest = []; rising = all_rising 0 tokens h.rising; spelt = s }
-
-pub ends_apart : (tokens : List Token) (script : Script) (bounds : Bounds) (values : List InputValue)
-    (answers : Answers) → IsSpelt tokens script → bounds.turns ≤ most_ended →
-    RunEndsApart script bounds values answers
-ends_apart tokens script bounds values answers h l =
-    let f = whole_fresh script.body (spelt_script tokens script h) (start bounds values answers) (start_stands bounds values answers l) in
+pub ends_apart : (bytes : List ℕ) (script : Script) (bounds : Bounds) (values : List InputValue) (answers : Answers) →
+    Spells bytes script → bounds.turns ≤ most_ended → RunEndsApart script bounds values answers
+ends_apart bytes script bounds values answers h l =
+    let f = whole_fresh script.body (spelt_script bytes script h) (start bounds values answers) (start_stands bounds values answers l) in
     apart_path _ _ (run_of script bounds values answers).1.0 (run_of script bounds values answers).1.1 (run_of script bounds values answers).0 f.apart f.last

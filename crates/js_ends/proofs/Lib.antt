@@ -14,5 +14,6 @@ pub mod Places
 pub mod Wider
 pub mod Phrases
 pub mod Spelt
+pub mod Tokens
 pub mod Laws
 pub mod Likeness

@@ -23,7 +23,8 @@ use Rattle.js_meaning.proofs.Opens.{with_expr, with_stmt}
 use Rattle.js_meaning.proofs.Known.{link_with, member_with, access_with, suffix_with, target_with}
 use Rattle.js_meaning.proofs.KnownStatements.{declarator_with}
 use Rattle.js_meaning.proofs.KnownForms.{head_with, catch_with}
-use Rattle.js_ends.proofs.Fresh.{place, Rising, SpeltStatements}
+use Rattle.js_ends.specs.Places.{place, AreRising}
+use Rattle.js_ends.proofs.Fresh.{SpeltStatements}
 use Rattle.js_ends.proofs.Forms.{count_fresh, Used}
 use Rattle.js_ends.proofs.Binds.{Within}
 use Rattle.js_ends.proofs.Names.{read_fresh}
@@ -102,7 +103,7 @@ shorthand_part lo hi n l m =
       good = λ calls c k scope d st s. count_fresh (Used (Some n.site)) (Within lo hi) (Passing lo hi (Some n.site)) d n.site st (read_name n.site n.name scope) s (λ st s. read_fresh (Used (Some n.site)) (Within lo hi) (Passing lo hi (Some n.site)) d n.site n.name scope st (l, m) (refl, refl) s);
     }
 
-pub static_key : (z : ℕ) (ts : List Token) (x : Expr) (rest : List Token) → IsStaticKey ts x rest → Rising z ts →
+pub static_key : (z : ℕ) (ts : List Token) (x : Expr) (rest : List Token) → IsStaticKey ts x rest → AreRising z ts →
     Between z ts rest (ExprIn x)
 static_key z _ _ _ (static_text ts text start close at rest h i) r =
     let a = begun z ts (k.Text text) start close h r in

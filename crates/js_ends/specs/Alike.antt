@@ -70,6 +70,28 @@ AreAlike w u =
     (events : List Event) (xs ys : List Item) → IsBehind events w.0 xs → IsBehind events u.0 ys →
     Begins (exits xs w.1) (exits ys u.1) ⊎ Begins (exits ys u.1) (exits xs w.1)
 
+-- ---- what no guard stopped, as the end for want of room
+
+-- wherever both have made the same events, and the one makes none behind them: the other doesn't either, and its exits from
+-- there to its end are the first ones of the one's
+abbrev pub EndsAsWell : Guarded → Guarded → Type 0
+EndsAsWell w u =
+    (events : List Event) (xs ys : List Item) → IsBehind events w.0 xs → IsBehind events u.0 ys → Silent xs →
+    Silent ys × Begins (exits ys u.1) (exits xs w.1)
+
+-- a guard with this exit is passed before the next event
+abbrev pub IsPassed : End → List Item → Type 0
+IsPassed x [] = ⊥
+IsPassed x (passed y ∷ items) = (y ≡ x) ⊎ IsPassed x items
+IsPassed x (made e ∷ items) = ⊥
+
+-- wherever both have made the same events, and the one makes none behind them, the other passes no guard there whose exit is
+-- the one's end
+abbrev pub IsNeverPassed : Guarded → Guarded → Type 0
+IsNeverPassed w u =
+    (events : List Event) (xs ys : List Item) → IsBehind events w.0 xs → IsBehind events u.0 ys → Silent xs →
+    IsPassed w.1 ys → ⊥
+
 -- ---- what a run's end tells of an input that goes on where the run's guard failed
 
 -- a guard with this exit is passed behind the last event

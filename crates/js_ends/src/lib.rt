@@ -5,5 +5,5 @@
 mod alike;
 mod ends;
 
-pub use alike::{ends_tell, paths_alike};
-pub use ends::ends_apart;
+pub use alike::{ends_tell, paths_alike, unguarded_ends};
+pub use ends::{ends_apart, tokens_rise};

@@ -2,4 +2,4 @@ use Rattle.js_ends.proofs.Laws.{ends_apart}
 use Rattle.js_ends.proofs.ends.ends_apart.Goals as goal
 
 pub returns : goal.returns
-returns c = record { apart = λ tokens script bounds values answers h l. ends_apart tokens script bounds values answers h l }
+returns c = record { apart = λ bytes script bounds values answers h l. ends_apart bytes script bounds values answers h l }
