@@ -3,6 +3,7 @@
 ghost use Rattle.std.specs.Prelude.{◌≡◌, ◌<◌, ◌≤◌, true, Some, None, IfOk, IfSome};
 ghost use Rattle.js_values.specs.Numbers.{fits};
 ghost use Rattle.js_meaning.specs.Conversions.{to_boolean, to_number, to_string, is_nullish, is_text, number_value};
+ghost use Rattle.js_meaning.specs.Operators.{old_number};
 ghost use Rattle.term_table.specs.Fitting.{IsValue};
 ghost use Rattle.term_table.specs.Views.{plain_value};
 

@@ -2,6 +2,8 @@
 #![tactic(auto)]
 
 mod chains;
+mod constructing;
+mod functions;
 mod lists;
 mod operators;
 mod values;

@@ -172,7 +172,7 @@ impl<'a> State<'a> {
 impl<'a> State<'a> {
     /// The built-in name that a name stands for, where it is neither bound nor an input.
     #[tactic(auto, unfolding(js_meaning::specs::Names::find_name))]
-    pub fn listed(&self, name: &Units, scope: Scope) -> Option<Builtin>
+    pub fn built_in(&self, name: &Units, scope: Scope) -> Option<Builtin>
         ensures { (view : View) → MatchOption result (finding (scope_of scope) name.now (place_of view self.now) ≡ listed → ⊥) (λ b. (finding (scope_of scope) name.now (place_of view self.now) ≡ listed) × (builtin_text b ≡ name.now)) }
     {
         if self.binding_of(scope, name).is_some() {

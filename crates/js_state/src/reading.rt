@@ -438,7 +438,13 @@ impl<'a> State<'a> {
 
     /// A property of a value in brackets whose value is asked for: so far that leaves the profile.
     #[tactic(auto, unfolding(js_meaning::specs::Objects::bracket_row))]
-    pub fn bracket_value(&self, site: u32, is_static: bool, base: &Shadow, key: &Shadow) -> Completion
+    pub fn bracket_value(
+        &self,
+        site: u32,
+        is_static: bool,
+        base: &Shadow,
+        key: &Shadow,
+    ) -> Completion
         requires base { Fits self.now.table base.now }
         requires key { Fits self.now.table key.now }
         ensures gives { (view : View) (this : SpecValue) (go : SpecValue → Place → Outcome) → bind (playing (bracket_row site is_static (callee (seen_at view base.now) this) (seen_at view key.now) (place_of view self.now).objects) (place_of view self.now)) (on_value go) ≡ done (place_of view self.now) (completion_at view result) }
