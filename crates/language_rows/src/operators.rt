@@ -147,7 +147,9 @@ fn content(alloc: Global, text: &str) -> Result<Plain, NoMemory>
 {
     if let [b'\'', inside @ .., b'\''] = text.as_bytes() {
         let units = Units::from_bytes(alloc, inside)?;
-        return Ok(Plain::Text(Text::new(alloc, units)?));
+        if units.len() <= 65_536 {
+            return Ok(Plain::Text(Text::new(alloc, units)?));
+        }
     }
     Ok(match text {
         "undefined" => Plain::Undefined,
