@@ -48,7 +48,7 @@ fn other<'a>(
 }
 
 /// `new` is begun.
-pub(crate) fn construct<'a>(
+pub fn construct<'a>(
     alloc: Global,
     state: &mut State<'a>,
     frames: &mut Frames<'a>,

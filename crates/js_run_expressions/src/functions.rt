@@ -21,11 +21,7 @@ use js_units::NoMemory;
 use path_core::Budget;
 
 /// A function object is the value.
-fn make<'a>(
-    state: &mut State<'a>,
-    site: u32,
-    closure: Closure<'a>,
-) -> Result<Completion, NoMemory>
+fn make<'a>(state: &mut State<'a>, site: u32, closure: Closure<'a>) -> Result<Completion, NoMemory>
     ensures gives { IfOk result (λ completion. Gives (λ view. make_function site (code_of closure.entry) (place_of view state.old) (λ f st. done st (given f))) state.new completion) }
     ensures still { IfOk result (λ completion. Still state.old state.new) }
     ensures fits { IfOk result (λ completion. InCompletion (Fits state.new.table) completion) }
@@ -72,7 +68,7 @@ fn make_named<'a>(
 }
 
 /// A function expression.
-pub(crate) fn function<'a>(
+pub fn function<'a>(
     state: &mut State<'a>,
     site: u32,
     name: &'a Option<Identifier>,
@@ -108,7 +104,7 @@ pub(crate) fn function<'a>(
 }
 
 /// An arrow, which has the `this` around it.
-pub(crate) fn arrow<'a>(
+pub fn arrow<'a>(
     state: &mut State<'a>,
     site: u32,
     parameters: &'a [Identifier],

@@ -57,7 +57,7 @@ fn elements<'a>(
 }
 
 /// An array literal is begun; the array is there before its elements.
-pub(crate) fn array<'a>(
+pub fn array<'a>(
     state: &mut State<'a>,
     frames: &mut Frames<'a>,
     site: u32,
@@ -146,7 +146,7 @@ fn members<'a>(
 }
 
 /// An object literal is begun; the object is there before its members.
-pub(crate) fn plain<'a>(
+pub fn plain<'a>(
     state: &mut State<'a>,
     frames: &mut Frames<'a>,
     site: u32,
@@ -251,7 +251,7 @@ pub fn member<'a>(
 }
 
 /// The arguments from here on.
-pub(crate) fn gather<'a>(
+pub fn gather<'a>(
     frames: &mut Frames<'a>,
     gathered: Boxed<Gathered<'a>>,
     rest: &'a [Boxed<Expr>],
@@ -282,11 +282,7 @@ fn with_value<'a>(
 ) -> Result<Boxed<Gathered<'a>>, NoMemory>
     ensures { IfOk result (λ more. more ≡ record gathered.entry { values = gathered.entry.values ++ value ∷ [] }) }
 {
-    let Gathered {
-        values,
-        aim,
-        scope,
-    } = gathered.into_inner();
+    let Gathered { values, aim, scope } = gathered.into_inner();
     let mut values = values;
     values.push(value)?;
     let more = Boxed::new(alloc, Gathered { values, aim, scope })?;

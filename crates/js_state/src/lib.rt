@@ -22,5 +22,5 @@ pub use builtins::{Builtin, Method, Static, is_error};
 pub use closure::{Closure, Code, Scope};
 pub use completion::{Completion, Reference};
 pub use held::{Bound, RunMove, Supplied};
-pub use shadows::{UNDEFINED, object, share, this_value};
+pub use shadows::{UNDEFINED, object, share};
 pub use state::State;

@@ -23,14 +23,6 @@ pub fn object(id: u32) -> Shadow
     }
 }
 
-/// The value that is `this`: an object, or undefined.
-pub fn this_value(this: Option<u32>) -> Shadow {
-    match this {
-        Some(id) => object(id),
-        None => UNDEFINED,
-    }
-}
-
 /// The same content. A string is shared, not copied.
 pub fn share_plain(plain: &Plain) -> Result<Plain, NoMemory>
     ensures { IfOk result (λ copy. copy ≡ plain.now) }

@@ -1,0 +1,61 @@
+-- `new`, by what its name is found as.
+use Rattle.std.proofs.Common.{◌≡◌, ℕ, Bool, true, false, Some, List, [], refl, ap, sym, subst, ◌∙◌}
+use Rattle.path_core.specs.declared.path.Why.TheVariants as why
+use Rattle.js_ast.specs.declared.parts.Identifier.{Identifier}
+use Rattle.js_ast.specs.declared.expression.Expr.{Expr}
+use Rattle.js_ast.specs.declared.operators.BinaryOp.{BinaryOp}
+use Rattle.js_ast.specs.declared.operators.StepOp.{StepOp}
+use Rattle.js_meaning.specs.Values.{Text, Value, undefined, Scope, Place}
+use Rattle.js_meaning.specs.Running.{Outcome, Completion, done, given, callee, play, bind, on_value, leaves}
+use Rattle.js_meaning.specs.Objects.{get_bracket}
+use Rattle.js_meaning.specs.Operators.{step_row}
+use Rattle.js_state.specs.declared.closure.Scope.{Scope as Around}
+use Rattle.js_state.specs.Held.{scope_of}
+use Rattle.js_frames.specs.declared.parts.Goal.TheVariants as goal
+use Rattle.js_frames.specs.Machine.{Fuel, calling, reached}
+use Rattle.js_meaning.specs.Builtins.{Calls, among, error_names, construct}
+use Rattle.js_meaning.specs.Names.{Found, bound, supplied, listed, nowhere, find_name, read_found, read_name}
+use Rattle.js_meaning.specs.Parts.{gather, bracket_aim, put_aim, step_value, apply}
+use Rattle.js_meaning.specs.Meaning.{expr, new_found, new_of}
+
+new_error : (site : ℕ) (name : Identifier) (es : List Expr) (f : Found) (calls : Calls) (k : ℕ) (scope : Scope) (st : Place) → f ≡ listed → among name.name error_names ≡ true →
+    new_found expr site name es calls k scope f st ≡ gather expr es calls k scope [] (construct site name.name) st
+new_error site name es f calls k scope st e a = rw (e, a) refl
+
+new_listed_other : (site : ℕ) (name : Identifier) (es : List Expr) (f : Found) (calls : Calls) (k : ℕ) (scope : Scope) (st : Place) → f ≡ listed → among name.name error_names ≡ false →
+    new_found expr site name es calls k scope f st ≡ leaves site why.New st
+new_listed_other site name es f calls k scope st e a = rw (e, a) refl
+
+new_unlisted : (site : ℕ) (name : Identifier) (es : List Expr) (f : Found) (calls : Calls) (k : ℕ) (scope : Scope) (st : Place) → (f ≡ listed → ⊥) →
+    new_found expr site name es calls k scope f st ≡ bind (read_found name.site name.name f st) (on_value (λ x st. leaves site why.New st))
+new_unlisted site name es (bound i) calls k scope st n = refl
+new_unlisted site name es (supplied x) calls k scope st n = refl
+new_unlisted site name es nowhere calls k scope st n = refl
+new_unlisted site name es listed calls k scope st n = absurd (n refl)
+
+pub of_error : (site : ℕ) (name : Identifier) (es : List Expr) (calls : Calls) (k : ℕ) (scope : Scope) (st : Place) → find_name scope name.name st ≡ listed → among name.name error_names ≡ true →
+    new_of expr site name es calls k scope st ≡ gather expr es calls k scope [] (construct site name.name) st
+of_error site name es calls k scope st e a = new_error site name es (find_name scope name.name st) calls k scope st e a
+
+pub of_listed : (site : ℕ) (name : Identifier) (es : List Expr) (calls : Calls) (k : ℕ) (scope : Scope) (st : Place) → find_name scope name.name st ≡ listed → among name.name error_names ≡ false →
+    new_of expr site name es calls k scope st ≡ leaves site why.New st
+of_listed site name es calls k scope st e a = new_listed_other site name es (find_name scope name.name st) calls k scope st e a
+
+pub of_other : (site : ℕ) (name : Identifier) (es : List Expr) (calls : Calls) (k : ℕ) (scope : Scope) (st : Place) → (find_name scope name.name st ≡ listed → ⊥) →
+    new_of expr site name es calls k scope st ≡ bind (read_name name.site name.name scope st) (on_value (λ x st. leaves site why.New st))
+unfolding read_name
+of_other site name es calls k scope st n = new_unlisted site name es (find_name scope name.name st) calls k scope st n
+
+-- ---- a target in brackets that is read
+
+pub step_stops : (w : Fuel) (at : ℕ) (op : StepOp) (is_prefix : Bool) (scope : Around) (site : ℕ) (is_static : Bool) (x y : Value) (st : Place) (c : Completion) →
+    ((go : Value → Place → Outcome) → bind (get_bracket site is_static (callee x undefined) y st) (on_value go) ≡ done st c) →
+    reached w (goal.Step at op is_prefix) scope (bracket_aim site is_static x y) st ≡ done st c
+step_stops w at op is_prefix scope site is_static x y st c h =
+    h (λ x' st. bind (play (step_row op at x') st) (on_value (λ y' st. bind (put_aim (scope_of scope) (bracket_aim site is_static x y) y' st) (on_value (λ z st. done st (given (step_value is_prefix x' z)))))))
+
+pub compound_stops : (w : Fuel) (at : ℕ) (op : BinaryOp) (value : _) (scope : Around) (site : ℕ) (is_static : Bool) (x y : Value) (st : Place) (c : Completion) →
+    ((go : Value → Place → Outcome) → bind (get_bracket site is_static (callee x undefined) y st) (on_value go) ≡ done st c) →
+    reached w (goal.Assign at (Some op) value) scope (bracket_aim site is_static x y) st ≡ done st c
+compound_stops w at op value scope site is_static x y st c h =
+    h (λ x' st. bind (expr value.now (calling w) w.loops (scope_of scope) st) (on_value (λ y' st. bind (apply op at x' y' st) (on_value (put_aim (scope_of scope) (bracket_aim site is_static x y))))))
