@@ -10,7 +10,8 @@ use Rattle.js_units.specs.Reading.{many}
 use Rattle.js_units.proofs.Reading.{same_read, shortens, Shortens, Sound, Spelt, Complete, Begins, many_sound, many_complete}
 use Rattle.proof_text.specs.Numbers.{IsBetween, number_at, not_zero, signed_at}
 use Rattle.proof_text.specs.Lines.{after, ◌>>=◌}
-use Rattle.proof_text.specs.Blocks.{literal_text, hint_text, clause_text, step_text, Sizes, sizes_text, IsHint}
+use Rattle.proof_text.specs.declared.reading.Sizes.{Sizes}
+use Rattle.proof_text.specs.Blocks.{literal_text, hint_text, clause_text, step_text, sizes_text, IsHint}
 use Rattle.proof_text.specs.Reading.{named, literal_at, hint_at, closing, clause_at, hints_at, step_at, sizes_at}
 use Rattle.proof_text.proofs.Parts.{after_sound, after_complete, Found, found}
 use Rattle.proof_text.proofs.Numerals.{apart, number_sound, number_complete, not_zero_of, not_zero_is, signed_sound, signed_complete}
