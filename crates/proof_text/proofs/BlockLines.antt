@@ -98,7 +98,7 @@ text_from s b k = text_parts (block_of s b) ∙ ap (λ (q : Sizes). sizes_text q
 abbrev pub Read : Type 0
 Read = Result (Block × List ℕ) (List ℕ)
 
-ok_block : (a b : Block × List ℕ) → ◌≡◌ {A = Read} (Ok a) (Ok b) → a ≡ b
+pub ok_block : (a b : Block × List ℕ) → ◌≡◌ {A = Read} (Ok a) (Ok b) → a ≡ b
 ok_block a b e = cc
 
 sizes_first : (list : List ℕ) (o : Option (Sizes × List ℕ)) (q : Sizes × List ℕ) → line_at o list ≡ Ok q → o ≡ Some q

@@ -6,3 +6,4 @@ pub mod Listed
 pub mod Formats
 pub mod BlockLines
 pub mod Counting
+pub mod Answering

@@ -8,7 +8,7 @@ mod literals;
 mod numbers;
 mod reading;
 
-pub use block::{Block, BlockRefusal, line_at};
+pub use block::{Block, BlockRefusal, line_at, read_block};
 pub use blocks::write_block;
 pub use lines::after;
 pub use numbers::{number, signed};
