@@ -201,3 +201,8 @@ shown blocks (lines.Unvisited query input) = lines.Unvisited query input
 
 abbrev pub shown_report : Bool → Report → Report
 shown_report blocks report = record { lines = map (shown blocks) report.lines; complete = report.complete }
+
+-- the text with its blocks, or without those under infeasible lines
+abbrev pub written : Bool → Report → List ℕ
+written true report = report_text report
+written false report = report_text (shown_report false report)

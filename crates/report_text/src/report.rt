@@ -5,7 +5,7 @@ ghost use Rattle.std.specs.List.{flat_map, list_all};
 ghost use Rattle.std.specs.Fmt.{signed_decimal};
 ghost use Rattle.js_units.specs.Quoted.{quoted};
 ghost use Rattle.proof_text.specs.Blocks.{block_text, IsSpelt};
-ghost use Rattle.report_text.specs.Lines.{value_text, item_text, letter, ways_text, event_text, error_text, thrown_text, why_text, budget_text, turns_text, end_text, child_text, query_text, shown_block, tried_text, term_text, path_text, head_text, candidates_text, costs_text, beyond_text, line_text, last_text, report_text, is_ascii, is_item_spelt, are_items_spelt, IsBlockSpelt, IsLineSpelt, AreSpelt, shown, shown_report};
+ghost use Rattle.report_text.specs.Lines.{value_text, item_text, letter, ways_text, event_text, error_text, thrown_text, why_text, budget_text, turns_text, end_text, child_text, query_text, shown_block, tried_text, term_text, path_text, head_text, candidates_text, costs_text, beyond_text, line_text, last_text, report_text, is_ascii, is_item_spelt, are_items_spelt, IsBlockSpelt, IsLineSpelt, AreSpelt, shown, shown_report, written};
 
 use cnf_core::{Cnf, Derivation};
 use js_units::{NoMemory, Units, escape};
@@ -599,10 +599,8 @@ fn last_line(complete: bool) -> &'static str
     }
 }
 
-/// The text of the report, each line ended by LF. Blocks under infeasible lines are written where they
-/// are asked for; those under `unknown steps` always are.
 #[tactic(auto, unfolding(crate::specs::Lines::report_text))]
-pub fn write_report(alloc: Global, report: &Report, blocks: bool) -> Result<Vec<u8>, NoMemory>
+fn report_bytes(alloc: Global, report: &Report, blocks: bool) -> Result<Vec<u8>, NoMemory>
     requires { AreSpelt report.now.lines }
     ensures { IfOk result (λ text. text.items ≡ report_text (shown_report blocks report.now)) }
 {
@@ -611,4 +609,14 @@ pub fn write_report(alloc: Global, report: &Report, blocks: bool) -> Result<Vec<
     push_lines(alloc, &mut out, blocks, report.lines.as_slice())?;
     push(&mut out, last_line(report.complete))?;
     Ok(out)
+}
+
+/// The text of the report, each line ended by LF. Blocks under infeasible lines are written where they
+/// are asked for; those under `unknown steps` always are.
+pub fn write_report(alloc: Global, report: &Report, blocks: bool) -> Result<Vec<u8>, NoMemory>
+    requires { AreSpelt report.now.lines }
+    ensures { IfOk result (λ text. text.items ≡ written blocks report.now) }
+{
+    let text = report_bytes(alloc, report, blocks)?;
+    Ok(text)
 }
