@@ -1,6 +1,6 @@
 -- Blocks that are read are those that are written, and where one is refused.
-use Rattle.std.proofs.Common.{◌≡◌, ℕ, zero, suc, ◌+◌, ◌-◌, ◌^◌, ◌<◌, ◌≤◌, List, [], ◌∷◌, ◌++◌, length, Option, Some, None, refl, sym, ap, subst, ◌∙◌, arith, append_assoc}
-use Rattle.std.specs.Prelude.{ℤ, All, slice_index, Result, Ok, Err}
+use Rattle.std.proofs.Common.{◌≡◌, ℕ, zero, suc, ◌^◌, ◌<◌, List, [], ◌∷◌, ◌++◌, length, Option, Some, None, refl, sym, ap, subst, ◌∙◌, arith, append_assoc}
+use Rattle.std.specs.Prelude.{ℤ, All, Result, Ok, Err}
 use Rattle.std.specs.List.{flat_map}
 use Rattle.cnf_core.specs.Literals.{Names}
 use Rattle.cnf_core.specs.declared.clauses.Cnf.{Cnf}
@@ -8,12 +8,12 @@ use Rattle.cnf_core.specs.declared.clauses.ProofStep.{ProofStep}
 use Rattle.cnf_core.specs.declared.clauses.Derivation.{Derivation}
 use Rattle.js_units.proofs.Reading.{Spelt, same_read}
 use Rattle.proof_text.specs.declared.reading.Sizes.{Sizes}
-use Rattle.proof_text.specs.Blocks.{clause_text, step_text, sizes_text, sizes_of, block_text, IsHint, IsSpelt}
+use Rattle.proof_text.specs.Blocks.{clause_text, step_text, sizes_text, sizes_of, block_text, IsHint}
 use Rattle.proof_text.specs.Reading.{clause_at, step_at, sizes_at}
 use Rattle.proof_text.specs.Counted.{times, line_at, ◌>>=◌}
 use Rattle.proof_text.specs.BlockReading.{body_at, block_at}
 use Rattle.proof_text.specs.Answers.{spelling, HasSpelling}
-use Rattle.proof_text.proofs.Whole.{line_same, line_whole}
+use Rattle.proof_text.proofs.Whole.{line_whole}
 use Rattle.proof_text.proofs.Refusing.{Refused, line_refused, first_part, second_part, TimesSpelt, times_sound, times_complete, times_refused, whole_times, some_times, none_some, ok_same}
 use Rattle.proof_text.proofs.Listed.{StepSpelt}
 use Rattle.proof_text.proofs.Formats.{clause_format, step_format, SizesSpelt, sizes_format}

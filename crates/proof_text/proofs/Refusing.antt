@@ -1,12 +1,12 @@
 -- Where a list stops being like the texts of a format.
-use Rattle.std.proofs.Common.{◌≡◌, ℕ, zero, suc, ◌+◌, ◌<◌, ◌≤◌, cond, List, [], ◌∷◌, ◌++◌, length, Option, Some, None, refl, sym, ap, subst, ◌∙◌, arith, append_assoc, append-nil, length-append, inl, inr}
+use Rattle.std.proofs.Common.{◌≡◌, ℕ, zero, suc, ◌+◌, cond, List, [], ◌∷◌, ◌++◌, length, Option, Some, None, refl, sym, ap, subst, ◌∙◌, arith, append_assoc, append-nil, inl, inr}
 use Rattle.std.specs.Prelude.{◌⊎◌, ◌==◌, Result, Ok, Err}
 use Rattle.std.specs.List.{flat_map}
 use Rattle.std.specs.Option.{option_map}
 use Rattle.js_units.proofs.Reading.{Sound, Complete, Spelt}
 use Rattle.proof_text.specs.Refusals.{first_lines, HasLines, IsFirstWrong}
 use Rattle.proof_text.specs.Counted.{in_front, one_then, times}
-use Rattle.proof_text.proofs.Whole.{IsLine, Whole, line_same, skip, whole_append, line_first, line_whole, FirstLine, first_of, some_same}
+use Rattle.proof_text.proofs.Whole.{IsLine, Whole, line_same, skip, whole_append, line_whole, first_of, some_same}
 
 -- The list begins with whole lines with which a text begins too, and no text goes on with the line behind them.
 pub record Refused {X : Type 0} (text : X → List ℕ) (is_spelt : X → Type 0) (list rest : List ℕ) : Type 0 where

@@ -1,7 +1,6 @@
 -- Blocks read line by line.
-use Rattle.std.specs.Prelude.{ℕ, ℤ, List, Result, Ok, Err}
+use Rattle.std.specs.Prelude.{ℕ, List, Result, Ok}
 use Rattle.cnf_core.specs.declared.clauses.Cnf.{Cnf}
-use Rattle.cnf_core.specs.declared.clauses.ProofStep.{ProofStep}
 use Rattle.cnf_core.specs.declared.clauses.Derivation.{Derivation}
 use Rattle.proof_text.specs.declared.reading.Sizes.{Sizes}
 use Rattle.proof_text.specs.Counted.{times, line_at, ◌>>=◌}

@@ -1,6 +1,6 @@
 -- The text of a proof block: ASCII lines, each ended by U+000A. The first line says how many variables, clauses and steps
 -- there are; a line for each clause and for each step follows. One block has one spelling.
-use Rattle.std.specs.Prelude.{◌≡◌, ◌≤◌, ◌<◌, ◌^◌, ℕ, ℤ, List, ◌++◌, length, codes, decimal, All}
+use Rattle.std.specs.Prelude.{◌≤◌, ◌<◌, ◌^◌, ℕ, ℤ, List, ◌++◌, length, codes, decimal, All}
 use Rattle.std.specs.List.{flat_map}
 use Rattle.std.specs.Fmt.{signed_decimal}
 use Rattle.cnf_core.specs.Derivations.{IsWithin, StepsWithin}

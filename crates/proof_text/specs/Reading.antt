@@ -1,5 +1,5 @@
 -- Lines read from left to right.
-use Rattle.std.specs.Prelude.{◌≡◌, ◌^◌, ◌-◌, ℕ, zero, suc, ◌==◌, ℤ, pos, negsuc, List, [], ◌∷◌, codes, Option, Some, None, Result, Ok, Err, if◌then◌else◌}
+use Rattle.std.specs.Prelude.{◌^◌, ◌-◌, ℕ, zero, suc, ℤ, pos, negsuc, List, codes, Option, Some, None}
 use Rattle.js_units.specs.Reading.{many}
 use Rattle.proof_text.specs.Numbers.{number_at, signed_at, not_zero}
 use Rattle.proof_text.specs.Lines.{after, ◌>>=◌}

@@ -1,6 +1,5 @@
-use Rattle.std.proofs.Common.{◌≡◌, ◌≤◌, ◌+◌, ◌-◌, ℕ, List, length, take, drop, sym, ap, subst, ◌∙◌}
-use Rattle.std.specs.Prelude.{Result, Ok, Err}
-use Rattle.proof_text.specs.Answers.{line_ends, spelling, HasSpelling}
+use Rattle.std.proofs.Common.{ℕ, List, sym, ap, subst, ◌∙◌}
+use Rattle.proof_text.specs.Answers.{spelling, HasSpelling}
 use Rattle.proof_text.specs.Refusals.{IsFirstWrong}
 use Rattle.proof_text.specs.BlockReading.{block_at}
 use Rattle.proof_text.specs.Counted.{seen}

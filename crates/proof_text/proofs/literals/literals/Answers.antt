@@ -1,4 +1,4 @@
-use Rattle.std.proofs.Common.{ℕ, ◌<◌, ◌^◌, sym, arith, rules, w64}
+use Rattle.std.proofs.Common.{◌<◌, ◌^◌, sym, arith, rules, w64}
 use Rattle.std.proofs.lemmas.Int.{to_z-of_z}
 use Rattle.proof_text.specs.Reading.{literal_at}
 use Rattle.js_units.proofs.Reading.{gathers_more, gathers_end}

@@ -1,4 +1,4 @@
-use Rattle.std.proofs.Common.{◌<◌, sym, arith}
+use Rattle.std.proofs.Common.{sym}
 use Rattle.proof_text.specs.Reading.{step_at}
 use Rattle.proof_text.proofs.Counting.{counts_start, counts_more, counts_wrong, counts_end}
 use Rattle.proof_text.proofs.reading.steps.Goals as goal
