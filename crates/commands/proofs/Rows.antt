@@ -1,5 +1,5 @@
 -- A worked example of the whole: `if (n > 3) { if (n < 2) {} }` with n from 0 to 4.
-use Rattle.std.proofs.Common.{◌≡◌, ◌≢◌, ℕ, ◌<◌, ◌+◌, true, length, pos, List, [], ◌∷◌, ◌++◌, map, codes, None, refl, ap, subst, sym, arith, inl, inr, lit≤, lit<}
+use Rattle.std.proofs.Common.{◌≡◌, ◌≢◌, ℕ, ◌<◌, ◌+◌, true, length, pos, List, [], ◌∷◌, ◌++◌, map, codes, None, Some, refl, ap, subst, sym, arith, inl, inr, lit≤, lit<}
 use Rattle.std.specs.Fmt.{digits}
 use Rattle.std.specs.List.{All, AllPairs, Contains, list_all}
 use Rattle.std.proofs.lemmas.List.Elements.{All-cons}
@@ -200,8 +200,14 @@ IsPrinted l = Contains (map line_path printed) (line_path l)
 abbrev Differs : Line → Line → Type 0
 Differs l m = line_path l ≢ line_path m
 
+inside : (a b : Path) → Some a ≡ Some b → a ≡ b
+inside a b e = cc
+
+differ_some : Some below ≢ Some above
+differ_some e = differ (inside below above e)
+
 abbrev IsOther : Line → Type 0
-IsOther l = line_path l ≢ above
+IsOther l = line_path l ≢ Some above
 
 abbrev from_3 : List Line
 from_3 = line 3 below ∷ line 4 above ∷ []
@@ -213,22 +219,22 @@ abbrev from_1 : List Line
 from_1 = line 1 below ∷ from_2
 
 other_3 : All IsOther (line 3 below ∷ [])
-other_3 = All-cons IsOther (line 3 below) [] differ (nothing IsOther)
+other_3 = All-cons IsOther (line 3 below) [] differ_some (nothing IsOther)
 
 other_2 : All IsOther (line 2 below ∷ line 3 below ∷ [])
-other_2 = All-cons IsOther (line 2 below) (line 3 below ∷ []) differ other_3
+other_2 = All-cons IsOther (line 2 below) (line 3 below ∷ []) differ_some other_3
 
 other_1 : All IsOther (line 1 below ∷ line 2 below ∷ line 3 below ∷ [])
-other_1 = All-cons IsOther (line 1 below) (line 2 below ∷ line 3 below ∷ []) differ other_2
+other_1 = All-cons IsOther (line 1 below) (line 2 below ∷ line 3 below ∷ []) differ_some other_2
 
 abbrev up_to_3 : List Line
 up_to_3 = line 0 below ∷ line 1 below ∷ line 2 below ∷ line 3 below ∷ []
 
 other_0 : All IsOther up_to_3
-other_0 = All-cons IsOther (line 0 below) (line 1 below ∷ line 2 below ∷ line 3 below ∷ []) differ other_1
+other_0 = All-cons IsOther (line 0 below) (line 1 below ∷ line 2 below ∷ line 3 below ∷ []) differ_some other_1
 
 first_below : IsFirst five_lines (line 0 below)
-first_below = ([], from_1, refl, nothing (λ m. line_path m ≢ below))
+first_below = ([], from_1, refl, nothing (λ m. line_path m ≢ Some below))
 
 first_above : IsFirst five_lines (line 4 above)
 first_above = (up_to_3, [], refl, other_0)
@@ -252,7 +258,7 @@ all_printed =
 picks : Picks five_lines printed
 picks = record {
   every = all_printed;
-  once = AllPairs-cons Differs (line 0 below) (line 4 above ∷ []) (All-cons (Differs (line 0 below)) (line 4 above) [] differ (nothing (Differs (line 0 below)))) (single Differs (line 4 above));
+  once = AllPairs-cons Differs (line 0 below) (line 4 above ∷ []) (All-cons (Differs (line 0 below)) (line 4 above) [] differ_some (nothing (Differs (line 0 below)))) (single Differs (line 4 above));
   first = All-cons (IsFirst five_lines) (line 0 below) (line 4 above ∷ []) first_below (All-cons (IsFirst five_lines) (line 4 above) [] first_above (nothing (IsFirst five_lines)));
   order =
       AllPairs-cons (Precedes five_lines) (line 0 below) (line 4 above ∷ [])

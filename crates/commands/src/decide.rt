@@ -140,7 +140,7 @@ fn answer(alloc: Global, script: &[u8], bounds: &[u8]) -> Result<Decided, NoMemo
         }
     };
     let report = list_all(alloc, &script, &bounds)?;
-    let text = write_report(alloc, &report)?;
+    let text = write_report(alloc, &report, true)?;
     Ok(Decided { number: 0, text })
 }
 

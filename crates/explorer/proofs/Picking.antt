@@ -1,5 +1,6 @@
 -- The lines that are picked of a list, as the list grows.
 use Rattle.std.proofs.Common.{◌≡◌, ◌≢◌, List, [], ◌∷◌, ◌++◌, get_or, map, refl, sym, ap, subst, ◌∙◌, append_assoc, arith}
+use Rattle.std.specs.Prelude.{Option}
 use Rattle.std.specs.List.{All, AllPairs, Contains}
 use Rattle.std.proofs.lemmas.List.Elements.{All-push, All-weaker, All-map, All-contains, All-get_or, Contains-append_left, Contains-push}
 use Rattle.std.proofs.lemmas.List.Quantifiers.{all_pairs_push}
@@ -7,12 +8,12 @@ use Rattle.path_core.specs.declared.path.Path.{Path}
 use Rattle.report_text.specs.declared.report.Line.{Line}
 use Rattle.explorer.specs.Listing.{line_path, IsFirst, Precedes, Picks}
 
-abbrev HasNot : Path → Line → Type 0
+abbrev HasNot : Option Path → Line → Type 0
 HasNot path l = line_path l ≢ path
 
 paths_push : (ls : List Line) (l : Line) → map line_path (ls ++ l ∷ []) ≡ map line_path ls ++ line_path l ∷ []
 paths_push [] l = refl
-paths_push (m ∷ ms) l = ap (λ (ps : List Path). line_path m ∷ ps) (paths_push ms l)
+paths_push (m ∷ ms) l = ap (λ (ps : List (Option Path)). line_path m ∷ ps) (paths_push ms l)
 
 more : (before after : List Line) (l m : Line) → (before ++ l ∷ after) ++ m ∷ [] ≡ before ++ l ∷ (after ++ m ∷ [])
 more before after l m = append_assoc before (l ∷ after) (m ∷ [])
@@ -46,7 +47,7 @@ picks_known all picked l h known = record {
 }
 
 -- no line of the list has a path that no picked line has
-none_before : (all picked : List Line) (path : Path) → Picks all picked → All (HasNot path) picked → All (HasNot path) all
+none_before : (all picked : List Line) (path : Option Path) → Picks all picked → All (HasNot path) picked → All (HasNot path) all
 none_before all picked path h new =
     All-weaker (λ m. Contains (map line_path picked) (line_path m)) (HasNot path)
     (λ m there same. All-contains (λ p. p ≢ path) (map line_path picked) (line_path m) (All-map (λ p. p ≢ path) line_path picked new) there same)
@@ -59,9 +60,9 @@ last_precedes all l m h = (h.0, h.1, [], ap (λ (ls : List Line). ls ++ m ∷ []
 pub picks_new : (all picked : List Line) (l : Line) → Picks all picked → All (HasNot (line_path l)) picked → Picks (all ++ l ∷ []) (picked ++ l ∷ [])
 picks_new all picked l h new = record {
   every =
-      let there : List Path = map line_path (picked ++ l ∷ []) in
+      let there : List (Option Path) = map line_path (picked ++ l ∷ []) in
       let same : there ≡ map line_path picked ++ line_path l ∷ [] = paths_push picked l in
-      subst (λ (ps : List Path). All (λ m. Contains ps (line_path m)) (all ++ l ∷ [])) (sym same)
+      subst (λ (ps : List (Option Path)). All (λ m. Contains ps (line_path m)) (all ++ l ∷ [])) (sym same)
       (All-push (λ m. Contains (map line_path picked ++ line_path l ∷ []) (line_path m)) all l
       (All-weaker (λ m. Contains (map line_path picked) (line_path m)) (λ m. Contains (map line_path picked ++ line_path l ∷ []) (line_path m)) (λ m c. Contains-append_left (map line_path picked) (line_path l ∷ []) (line_path m) c) all h.every)
       (Contains-push (map line_path picked) (line_path l)));

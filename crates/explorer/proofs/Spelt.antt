@@ -13,7 +13,7 @@ use Rattle.path_core.specs.Inputs.{Values, within}
 use Rattle.small_ast.specs.declared.tree.Script.{Script}
 use Rattle.report_text.specs.declared.report.Line.{Line}
 use Rattle.report_text.specs.declared.report.Report.{Report}
-use Rattle.report_text.specs.Lines.{is_ascii, is_item_spelt, is_line_spelt, is_spelt}
+use Rattle.report_text.specs.Lines.{is_ascii, is_item_spelt, IsLineSpelt, AreSpelt}
 use Rattle.explorer.specs.Listing.{named, line_of, IsFirst, IsListed}
 
 both_true : (a b : Bool) → (a && b) ≡ true → (a ≡ true) × (b ≡ true)
@@ -55,20 +55,19 @@ items_spelt (d ∷ ds) [] h = refl
 items_spelt (d ∷ ds) (v ∷ vs) h =
     and_true (list_all is_ascii d.name) (list_all is_item_spelt (named ds vs)) (name_ascii d (All-head IsAccepted d ds h)) (items_spelt ds vs (All-tail IsAccepted d ds h))
 
-lines_spelt : (script : Script) (bounds : Bounds) (xs : List Values) → All IsAccepted bounds.inputs → list_all is_line_spelt (map (line_of script bounds) xs) ≡ true
-lines_spelt script bounds [] h = refl
-lines_spelt script bounds (x ∷ xs) h =
-    and_true (is_line_spelt (line_of script bounds x)) (list_all is_line_spelt (map (line_of script bounds) xs)) (items_spelt bounds.inputs x h) (lines_spelt script bounds xs h)
+lines_spelt : (script : Script) (bounds : Bounds) (xs : List Values) → All IsAccepted bounds.inputs → AreSpelt (map (line_of script bounds) xs)
+lines_spelt script bounds [] h = tt
+lines_spelt script bounds (x ∷ xs) h = (items_spelt bounds.inputs x h, lines_spelt script bounds xs h)
 
-spelt_at : (before after : List Line) (l : Line) → list_all is_line_spelt (before ++ l ∷ after) ≡ true → is_line_spelt l ≡ true
-spelt_at [] after l e = (both_true (is_line_spelt l) (list_all is_line_spelt after) e).0
-spelt_at (m ∷ before) after l e = spelt_at before after l (both_true (is_line_spelt m) (list_all is_line_spelt (before ++ l ∷ after)) e).1
+spelt_at : (before after : List Line) (l : Line) → AreSpelt (before ++ l ∷ after) → IsLineSpelt l
+spelt_at [] after l e = e.0
+spelt_at (m ∷ before) after l e = spelt_at before after l e.1
 
-picked_spelt : (all picked : List Line) → list_all is_line_spelt all ≡ true → All (IsFirst all) picked → list_all is_line_spelt picked ≡ true
-picked_spelt all [] e h = refl
+picked_spelt : (all picked : List Line) → AreSpelt all → All (IsFirst all) picked → AreSpelt picked
+picked_spelt all [] e h = tt
 picked_spelt all (l ∷ ls) e h =
     let first = All-head (IsFirst all) l ls h in
-    and_true (is_line_spelt l) (list_all is_line_spelt ls) (spelt_at first.0 first.1 l (subst (λ (xs : List Line). list_all is_line_spelt xs ≡ true) first.2 e)) (picked_spelt all ls e (All-tail (IsFirst all) l ls h))
+    (spelt_at first.0 first.1 l (subst AreSpelt first.2 e), picked_spelt all ls e (All-tail (IsFirst all) l ls h))
 
-pub listed_spelt : (script : Script) (bounds : Bounds) (report : Report) → All IsAccepted bounds.inputs → IsListed script bounds report → is_spelt report ≡ true
+pub listed_spelt : (script : Script) (bounds : Bounds) (report : Report) → All IsAccepted bounds.inputs → IsListed script bounds report → AreSpelt report.lines
 listed_spelt script bounds report h listed = picked_spelt _ report.lines (lines_spelt script bounds (within bounds.inputs) h) listed.lines.first

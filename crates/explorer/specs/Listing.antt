@@ -1,5 +1,5 @@
 -- Which report lists the paths of a script.
-use Rattle.std.specs.Prelude.{◌≡◌, ◌≢◌, ℕ, true, List, [], ◌∷◌, ◌++◌, map, All, AllPairs, Contains}
+use Rattle.std.specs.Prelude.{◌≡◌, ◌≢◌, ℕ, true, List, [], ◌∷◌, ◌++◌, map, All, AllPairs, Contains, Option, Some, None}
 use Rattle.path_core.specs.declared.bounds.Bounds.{Bounds}
 use Rattle.path_core.specs.declared.bounds.Declared.{Declared}
 use Rattle.path_core.specs.declared.path.InputValue.{InputValue}
@@ -29,8 +29,14 @@ line_of script bounds values = lines.Path (named bounds.inputs values) (path_of 
 abbrev pub all_lines : Script → Bounds → List Line
 all_lines script bounds = map (line_of script bounds) (within bounds.inputs)
 
-abbrev pub line_path : Line → Path
-line_path (lines.Path input path) = path
+-- the path of a path line; any other line has none
+abbrev pub line_path : Line → Option Path
+line_path (lines.Path input path) = Some path
+line_path (lines.Shut query block) = None
+line_path (lines.Tried query tried untried) = None
+line_path (lines.Stepped query cnf derivation) = None
+line_path (lines.Wide query cost terms) = None
+line_path (lines.Unvisited query input) = None
 
 -- no line before it has its path
 abbrev pub IsFirst : List Line → Line → Type 0

@@ -1,9 +1,9 @@
 //! The list of the different paths of a script.
 
-ghost use Rattle.std.specs.Prelude.{◌≡◌, ◌≢◌, ◌≤◌, List, [], ◌∷◌, ◌++◌, length, map, All, Contains, true, MatchBool, IfOk, OnOk};
+ghost use Rattle.std.specs.Prelude.{◌≡◌, ◌≢◌, ◌≤◌, List, [], ◌∷◌, ◌++◌, length, map, All, Contains, true, MatchBool, Some, IfOk, OnOk};
 ghost use Rattle.path_core.specs.Accepted.{IsAccepted};
 ghost use Rattle.path_core.specs.Inputs.{within, IsRange};
-ghost use Rattle.report_text.specs.Lines.{is_spelt};
+ghost use Rattle.report_text.specs.Lines.{AreSpelt};
 ghost use Rattle.report_text.specs.declared.report.Line.{Line};
 ghost use Rattle.explorer.specs.Listing.{named, line_of, line_path, all_lines, Picks, IsListed, max_inputs};
 
@@ -17,17 +17,22 @@ use small_machine::run_plain;
 use sqlite_items::Items;
 use std::alloc::Global;
 
+fn has_path(line: &Line, path: &Path) -> bool
+    ensures { MatchBool result (line_path line.now ≡ Some path.now) (line_path line.now ≢ Some path.now) }
+{
+    match line {
+        Line::Path { path: known, .. } => is_same_path(known, path),
+        _ => false,
+    }
+}
+
 /// Whether a line has this path.
 fn is_listed(lines: &[Line], path: &Path) -> bool
-    ensures { MatchBool result (Contains (map line_path lines.now) path.now) (All (λ l. line_path l ≢ path.now) lines.now) }
+    ensures { MatchBool result (Contains (map line_path lines.now) (Some path.now)) (All (λ l. line_path l ≢ Some path.now) lines.now) }
 {
     for line in lines {
-        match line {
-            Line::Path { path: known, .. } => {
-                if is_same_path(known, path) {
-                    return true;
-                }
-            }
+        if has_path(line, path) {
+            return true;
         }
     }
     false
@@ -107,7 +112,7 @@ pub fn list_all(alloc: Global, script: &Script, bounds: &Bounds) -> Result<Repor
     requires few { length (within bounds.now.inputs) ≤ max_inputs }
     ensures listed { IfOk result (λ report. IsListed script.now bounds.now report) }
     // Every name and every text of it can be written.
-    ensures spelt { IfOk result (λ report. is_spelt report ≡ true) }
+    ensures spelt { IfOk result (λ report. AreSpelt report.lines) }
 {
     let lines = lines_of(alloc, script, bounds)?;
     Ok(Report {

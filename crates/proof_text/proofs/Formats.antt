@@ -1,6 +1,6 @@
 -- The lines of a block, each with its text and its reading.
-use Rattle.std.proofs.Common.{◌≡◌, ℕ, zero, suc, ◌+◌, ◌-◌, ◌^◌, ◌<◌, ◌≤◌, Bool, true, false, cond, List, [], ◌∷◌, ◌++◌, length, Option, Some, None, refl, sym, ap, subst, ◌∙◌, arith, append_assoc, append-nil, length-append}
-use Rattle.std.specs.Prelude.{ℤ, codes, decimal, ◌&&◌}
+use Rattle.std.proofs.Common.{◌≡◌, ℕ, ◌-◌, ◌^◌, ◌<◌, ◌≤◌, true, List, [], ◌∷◌, ◌++◌, refl, sym, ap, subst, ◌∙◌, arith, append_assoc}
+use Rattle.std.specs.Prelude.{ℤ, codes, decimal}
 use Rattle.std.specs.List.{flat_map, list_all}
 use Rattle.std.proofs.lemmas.Bool.{and_parts}
 use Rattle.cnf_core.specs.Literals.{Names}
@@ -8,14 +8,15 @@ use Rattle.cnf_core.specs.declared.clauses.ProofStep.{ProofStep}
 use Rattle.js_units.specs.Characters.{is_digit}
 use Rattle.js_units.proofs.Reading.{same_read, Sound, Spelt, Complete}
 use Rattle.proof_text.specs.Numbers.{number_at}
-use Rattle.proof_text.specs.Lines.{after, ◌>>=◌}
-use Rattle.proof_text.specs.Blocks.{literal_text, hint_text, clause_text, step_text, Sizes, sizes_text, IsHint}
+use Rattle.proof_text.specs.Lines.{after}
+use Rattle.proof_text.specs.declared.reading.Sizes.{Sizes}
+use Rattle.proof_text.specs.Blocks.{literal_text, hint_text, clause_text, step_text, sizes_text, IsHint}
 use Rattle.proof_text.specs.Reading.{clause_at, step_at, sizes_at}
-use Rattle.proof_text.proofs.Parts.{after_sound, after_complete, Found, found}
+use Rattle.proof_text.proofs.Parts.{after_sound, found}
 use Rattle.proof_text.proofs.Numerals.{apart, number_sound, number_complete, decimal_inner, signed_inner}
 use Rattle.proof_text.proofs.Whole.{is_inner, IsLine}
 use Rattle.proof_text.proofs.Refusing.{IsLineFormat}
-use Rattle.proof_text.proofs.Literals.{between_names, clause_sound, clause_complete, StepSpelt, step_sound, step_complete}
+use Rattle.proof_text.proofs.Listed.{between_names, clause_sound, clause_complete, StepSpelt, step_sound, step_complete}
 
 pub inner_append : (a b : List ℕ) → list_all is_inner a ≡ true → list_all is_inner b ≡ true → list_all is_inner (a ++ b) ≡ true
 inner_append [] b h k = k

@@ -2,6 +2,8 @@ pub mod Parts
 pub mod Numerals
 pub mod Whole
 pub mod Refusing
-pub mod Literals
+pub mod Listed
 pub mod Formats
 pub mod BlockLines
+pub mod Counting
+pub mod Answering

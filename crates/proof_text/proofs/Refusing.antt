@@ -1,12 +1,12 @@
 -- Where a list stops being like the texts of a format.
-use Rattle.std.proofs.Common.{◌≡◌, ℕ, zero, suc, ◌+◌, ◌<◌, ◌≤◌, cond, List, [], ◌∷◌, ◌++◌, length, Option, Some, None, refl, sym, ap, subst, ◌∙◌, arith, append_assoc, append-nil, length-append, inl, inr}
+use Rattle.std.proofs.Common.{◌≡◌, ℕ, zero, suc, ◌+◌, cond, List, [], ◌∷◌, ◌++◌, length, Option, Some, None, refl, sym, ap, subst, ◌∙◌, arith, append_assoc, append-nil, inl, inr}
 use Rattle.std.specs.Prelude.{◌⊎◌, ◌==◌, Result, Ok, Err}
 use Rattle.std.specs.List.{flat_map}
 use Rattle.std.specs.Option.{option_map}
 use Rattle.js_units.proofs.Reading.{Sound, Complete, Spelt}
 use Rattle.proof_text.specs.Refusals.{first_lines, HasLines, IsFirstWrong}
 use Rattle.proof_text.specs.Counted.{in_front, one_then, times}
-use Rattle.proof_text.proofs.Whole.{IsLine, Whole, line_same, skip, whole_append, line_first, line_whole, FirstLine, first_of, some_same}
+use Rattle.proof_text.proofs.Whole.{IsLine, Whole, line_same, skip, whole_append, line_whole, first_of, some_same}
 
 -- The list begins with whole lines with which a text begins too, and no text goes on with the line behind them.
 pub record Refused {X : Type 0} (text : X → List ℕ) (is_spelt : X → Type 0) (list rest : List ℕ) : Type 0 where
@@ -28,7 +28,7 @@ pub record IsLineFormat {X : Type 0} (take : List ℕ → Option (X × List ℕ)
   pub complete : Complete take text is_spelt (λ rest. Unit {0})
   pub line : (x : X) → is_spelt x → IsLine (text x)
 
-none_some : {A : Type 0} (o : Option A) (x : A) → o ≡ None → o ≡ Some x → ⊥
+pub none_some : {A : Type 0} (o : Option A) (x : A) → o ≡ None → o ≡ Some x → ⊥
 none_some o x e h = let k : None ≡ Some x = sym e ∙ h in absurd cc
 
 pub line_refused : {X : Type 0} (take : List ℕ → Option (X × List ℕ)) (text : X → List ℕ) (is_spelt : X → Type 0) → IsLineFormat take text is_spelt → (some : X) → is_spelt some → (list : List ℕ) → take list ≡ None → Refused text is_spelt list list
@@ -167,7 +167,7 @@ first_wrong text is_spelt list rest never r line e = record {
 abbrev pub TimesSpelt : {X : Type 0} → (X → Type 0) → ℕ → List X → Type 0
 TimesSpelt is_spelt n xs = (length xs ≡ n) × Spelt is_spelt xs
 
-ok_same : (A : Type 0) (a b : A) → ◌≡◌ {A = Result A (List ℕ)} (Ok a) (Ok b) → a ≡ b
+pub ok_same : (A : Type 0) (a b : A) → ◌≡◌ {A = Result A (List ℕ)} (Ok a) (Ok b) → a ≡ b
 ok_same A a b e = cc
 
 in_front_ok : {X : Type 0} (x : X) (r : Result (List X × List ℕ) (List ℕ)) (q : List X × List ℕ) → in_front x r ≡ Ok q → (ys : List X) × (r ≡ Ok (ys, q.1)) × (x ∷ ys ≡ q.0)
@@ -207,7 +207,7 @@ times_complete take text is_spelt h (suc n) (x ∷ xs) rest s =
     ∙ ap (in_front x) (times_complete take text is_spelt h n xs rest (omega (arith, s.0), s.1.1))
 
 -- any number of them is there
-some_times : {X : Type 0} (is_spelt : X → Type 0) (some : X) → is_spelt some → (n : ℕ) → (xs : List X) × TimesSpelt is_spelt n xs
+pub some_times : {X : Type 0} (is_spelt : X → Type 0) (some : X) → is_spelt some → (n : ℕ) → (xs : List X) × TimesSpelt is_spelt n xs
 some_times is_spelt some s zero = ([], (refl, tt))
 some_times is_spelt some s (suc n) = let more = some_times is_spelt some s n in (some ∷ more.0, (omega (arith, more.1.0), (s, more.1.1)))
 

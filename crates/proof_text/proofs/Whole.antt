@@ -1,11 +1,11 @@
 -- Lists that are whole lines.
-use Rattle.std.proofs.Common.{◌≡◌, ℕ, zero, suc, ◌+◌, ◌<◌, ◌≤◌, Bool, true, false, cond, List, [], ◌∷◌, ◌++◌, length, Option, Some, None, refl, sym, ap, subst, ◌∙◌, arith, append_assoc, append-nil, length-append}
-use Rattle.std.specs.Prelude.{◌==◌, ◌⊎◌, not}
+use Rattle.std.proofs.Common.{◌≡◌, ℕ, zero, suc, ◌+◌, Bool, true, false, cond, List, [], ◌∷◌, ◌++◌, Option, Some, None, refl, sym, ap, subst, ◌∙◌, arith, append_assoc, append-nil}
+use Rattle.std.specs.Prelude.{◌==◌, not}
 use Rattle.std.specs.List.{list_all}
 use Rattle.std.specs.Option.{option_map}
-use Rattle.std.proofs.Common.{inl, inr}
 use Rattle.std.proofs.lemmas.Bool.{eqb-true, and_parts}
 use Rattle.proof_text.specs.Refusals.{first_lines}
+use Rattle.proof_text.specs.Answers.{line_ends}
 
 -- no LF
 abbrev pub is_inner : ℕ → Bool
@@ -140,3 +140,15 @@ first_by b bs line false e h go = later (first_lines 1 bs) refl h
 pub first_of : (list line : List ℕ) → first_lines 1 list ≡ Some line → FirstLine list line
 first_of [] line e = absurd cc
 first_of (b ∷ bs) line e = first_by b bs line (b == 10) refl e (λ more k. first_of bs more k)
+
+-- so many lines end in whole lines
+ends_by : (b n : ℕ) (bs : List ℕ) (x : Bool) → (b == 10) ≡ x → (line_ends bs ≡ cond x n (suc n)) → cond x 1 0 + line_ends bs ≡ suc n
+ends_by b n bs true e h = omega (arith, h)
+ends_by b n bs false e h = omega (arith, h)
+
+pub whole_ends : (n : ℕ) (list : List ℕ) → Whole n list → line_ends list ≡ n
+whole_ends zero [] h = refl
+whole_ends zero (b ∷ bs) h = absurd (let k = some_same [] (b ∷ bs) h in cc)
+whole_ends (suc n) [] h = absurd cc
+whole_ends (suc n) (b ∷ bs) h =
+    ends_by b n bs (b == 10) refl (whole_ends (cond (b == 10) n (suc n)) bs (unmapped b (first_lines (cond (b == 10) n (suc n)) bs) bs h))

@@ -1,12 +1,13 @@
 -- The text of a proof block: ASCII lines, each ended by U+000A. The first line says how many variables, clauses and steps
 -- there are; a line for each clause and for each step follows. One block has one spelling.
-use Rattle.std.specs.Prelude.{◌≡◌, ◌≤◌, ◌<◌, ◌^◌, ℕ, ℤ, List, ◌++◌, length, codes, decimal, All}
+use Rattle.std.specs.Prelude.{◌≤◌, ◌<◌, ◌^◌, ℕ, ℤ, List, ◌++◌, length, codes, decimal, All}
 use Rattle.std.specs.List.{flat_map}
 use Rattle.std.specs.Fmt.{signed_decimal}
 use Rattle.cnf_core.specs.Derivations.{IsWithin, StepsWithin}
 use Rattle.cnf_core.specs.declared.clauses.Cnf.{Cnf}
 use Rattle.cnf_core.specs.declared.clauses.ProofStep.{ProofStep}
 use Rattle.cnf_core.specs.declared.clauses.Derivation.{Derivation}
+use Rattle.proof_text.specs.declared.reading.Sizes.{Sizes}
 
 abbrev pub literal_text : ℤ → List ℕ
 literal_text lit = codes " " ++ signed_decimal lit
@@ -21,12 +22,6 @@ clause_text clause = codes "c" ++ flat_map literal_text clause ++ codes " 0\n"
 -- s LIT .. 0 HINT .. 0
 unfoldable pub step_text : ProofStep → List ℕ
 step_text step = codes "s" ++ flat_map literal_text step.clause ++ codes " 0" ++ flat_map hint_text step.hints ++ codes " 0\n"
-
--- how many variables, clauses and steps
-pub record Sizes : Type 0 where
-  pub variables : ℕ
-  pub clauses : ℕ
-  pub steps : ℕ
 
 -- block V C S
 unfoldable pub sizes_text : Sizes → List ℕ

@@ -1,5 +1,6 @@
 -- Lines one behind another: what they say, or the list from the first wrong line on.
 use Rattle.std.specs.Prelude.{ℕ, zero, suc, List, [], ◌∷◌, Option, Some, None, Result, Ok, Err}
+use Rattle.std.specs.Borrow.{Bor}
 
 abbrev pub in_front : {X : Type 0} → X → Result (List X × List ℕ) (List ℕ) → Result (List X × List ℕ) (List ℕ)
 in_front x (Ok r) = Ok (x ∷ r.0, r.1)
@@ -23,3 +24,8 @@ infixl 10 ◌>>=◌
 abbrev pub ◌>>=◌ : {A B : Type 0} → Result A (List ℕ) → (A → Result B (List ℕ)) → Result B (List ℕ)
 (Ok x) >>= f = f x
 (Err at) >>= f = Err at
+
+-- a reading, with slices seen as the lists that they are
+abbrev pub seen : {X : Type 0} → Result (X × Bor (List ℕ)) (Bor (List ℕ)) → Result (X × List ℕ) (List ℕ)
+seen (Ok r) = Ok (r.0, r.1.now)
+seen (Err at) = Err at.now

@@ -5,3 +5,4 @@ pub mod Reading
 pub mod Refusals
 pub mod Counted
 pub mod BlockReading
+pub mod Answers

@@ -1,5 +1,5 @@
 -- Parts of lines: words, and what stands behind them.
-use Rattle.std.specs.Prelude.{ℕ, ◌==◌, nat_le, Bool, List, [], ◌∷◌, Option, Some, None, if◌then◌else◌}
+use Rattle.std.specs.Prelude.{ℕ, ◌==◌, List, [], ◌∷◌, Option, Some, None, if◌then◌else◌}
 
 -- what is behind a word at the front
 abbrev pub after : List ℕ → List ℕ → Option (List ℕ)

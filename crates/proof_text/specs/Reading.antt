@@ -1,9 +1,9 @@
 -- Lines read from left to right.
-use Rattle.std.specs.Prelude.{◌≡◌, ◌^◌, ◌-◌, ℕ, zero, suc, ◌==◌, ℤ, pos, negsuc, List, [], ◌∷◌, codes, Option, Some, None, Result, Ok, Err, if◌then◌else◌}
+use Rattle.std.specs.Prelude.{◌^◌, ◌-◌, ℕ, zero, suc, ℤ, pos, negsuc, List, codes, Option, Some, None}
 use Rattle.js_units.specs.Reading.{many}
 use Rattle.proof_text.specs.Numbers.{number_at, signed_at, not_zero}
 use Rattle.proof_text.specs.Lines.{after, ◌>>=◌}
-use Rattle.proof_text.specs.Blocks.{Sizes}
+use Rattle.proof_text.specs.declared.reading.Sizes.{Sizes}
 use Rattle.cnf_core.specs.declared.clauses.ProofStep.{ProofStep}
 
 -- a literal of at most so many variables
@@ -45,13 +45,17 @@ step_at variables list = do
   read ← closing (codes " 0") (many (literal_at variables) literals)
   hints_at read.0 read.1
 
-unfoldable pub sizes_at : List ℕ → Option (Sizes × List ℕ)
-sizes_at list = do
-  numbers ← after (codes "block ") list
-  variables ← number_at (2 ^ 62) numbers
-  second ← after (codes " ") variables.1
-  clauses ← number_at (2 ^ 64 - 1) second
-  third ← after (codes " ") clauses.1
+abbrev pub last_size : ℕ → ℕ → List ℕ → Option (Sizes × List ℕ)
+last_size variables clauses list = do
+  third ← after (codes " ") list
   steps ← number_at (2 ^ 64 - 1) third
   rest ← after (codes "\n") steps.1
-  Some (record { variables = variables.0; clauses = clauses.0; steps = steps.0 }, rest)
+  Some (record { variables = variables; clauses = clauses; steps = steps.0 }, rest)
+
+unfoldable pub sizes_at : List ℕ → Option (Sizes × List ℕ)
+sizes_at list = do
+  first ← after (codes "block ") list
+  variables ← number_at (2 ^ 62) first
+  second ← after (codes " ") variables.1
+  clauses ← number_at (2 ^ 64 - 1) second
+  last_size variables.0 clauses.0 clauses.1

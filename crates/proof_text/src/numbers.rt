@@ -1,8 +1,8 @@
 //! Numbers read back.
 
-ghost use Rattle.std.specs.Prelude.{◌≡◌, ◌≤◌, ◌<◌, ◌^◌, IfSome};
+ghost use Rattle.std.specs.Prelude.{ℕ, ◌≡◌, ◌≤◌, ◌<◌, ◌^◌, IfSome};
 ghost use Rattle.std.specs.Option.{option_map};
-ghost use Rattle.proof_text.specs.Numbers.{digits_on, number_at, negative, positive, signed_at};
+ghost use Rattle.proof_text.specs.Numbers.{IsBetween, digits_on, number_at, negative, positive, signed_at};
 
 use js_units::is_digit;
 
@@ -42,9 +42,11 @@ pub fn number(most: u64, bytes: &[u8]) -> Option<(u64, &[u8])>
     }
 }
 
-fn negative(found: Option<(u64, &[u8])>) -> Option<(i64, &[u8])>
-    requires { IfSome found (λ x. x.0 ≤ 2 ^ 63) }
-    ensures { option_map (λ x. (x.0, x.1.now)) result ≡ negative (option_map (λ x. (x.0, x.1.now)) found.entry) }
+fn negative(below: u64, found: Option<(u64, &[u8])>) -> Option<(i64, &[u8])>
+    requires below { below ≤ 2 ^ 63 }
+    requires found { IfSome found (λ x. x.0 ≤ below) }
+    ensures within { IfSome result (λ x. (c : ℕ) → IsBetween below c x.0) }
+    ensures value { option_map (λ x. (x.0, x.1.now)) result ≡ negative (option_map (λ x. (x.0, x.1.now)) found.entry) }
 {
     match found {
         Some((0, _)) => None,
@@ -53,9 +55,11 @@ fn negative(found: Option<(u64, &[u8])>) -> Option<(i64, &[u8])>
     }
 }
 
-fn positive(found: Option<(u64, &[u8])>) -> Option<(i64, &[u8])>
-    requires { IfSome found (λ x. x.0 < 2 ^ 63) }
-    ensures { option_map (λ x. (x.0, x.1.now)) result ≡ positive (option_map (λ x. (x.0, x.1.now)) found.entry) }
+fn positive(above: u64, found: Option<(u64, &[u8])>) -> Option<(i64, &[u8])>
+    requires above { above < 2 ^ 63 }
+    requires found { IfSome found (λ x. x.0 ≤ above) }
+    ensures within { IfSome result (λ x. (c : ℕ) → IsBetween c above x.0) }
+    ensures value { option_map (λ x. (x.0, x.1.now)) result ≡ positive (option_map (λ x. (x.0, x.1.now)) found.entry) }
 {
     match found {
         Some((number, rest)) => Some((number as i64, rest)),
@@ -69,11 +73,12 @@ fn positive(found: Option<(u64, &[u8])>) -> Option<(i64, &[u8])>
 pub fn signed(below: u64, above: u64, bytes: &[u8]) -> Option<(i64, &[u8])>
     requires below { below ≤ 2 ^ 63 }
     requires above { above < 2 ^ 63 }
-    ensures { option_map (λ x. (x.0, x.1.now)) result ≡ signed_at below above bytes.now }
+    ensures within { IfSome result (λ x. IsBetween below above x.0) }
+    ensures value { option_map (λ x. (x.0, x.1.now)) result ≡ signed_at below above bytes.now }
 {
     match bytes {
         [] => None,
-        [first, rest @ ..] if *first == b'-' => negative(number(below, rest)),
-        _ => positive(number(above, bytes)),
+        [first, rest @ ..] if *first == b'-' => negative(below, number(below, rest)),
+        _ => positive(above, number(above, bytes)),
     }
 }

@@ -1,7 +1,7 @@
 -- Clauses and steps that are read are those that are written.
-use Rattle.std.proofs.Common.{◌≡◌, ℕ, zero, suc, ◌+◌, ◌-◌, ◌^◌, ◌<◌, ◌≤◌, Bool, true, false, cond, List, [], ◌∷◌, ◌++◌, length, Option, Some, None, refl, sym, ap, subst, ◌∙◌, arith, append_assoc, append-nil, length-append}
-use Rattle.std.specs.Prelude.{ℤ, pos, negsuc, codes, decimal, All, slice_index, unsigned_abs}
-use Rattle.std.specs.List.{flat_map, list_all}
+use Rattle.std.proofs.Common.{◌≡◌, ℕ, zero, suc, ◌-◌, ◌^◌, ◌<◌, ◌≤◌, true, List, ◌∷◌, ◌++◌, length, Option, Some, None, refl, sym, ap, subst, ◌∙◌, arith, append_assoc}
+use Rattle.std.specs.Prelude.{ℤ, pos, negsuc, codes, decimal, unsigned_abs}
+use Rattle.std.specs.List.{flat_map}
 use Rattle.std.specs.Fmt.{signed_decimal}
 use Rattle.cnf_core.specs.Literals.{Names}
 use Rattle.cnf_core.specs.declared.clauses.ProofStep.{ProofStep}
@@ -10,9 +10,9 @@ use Rattle.js_units.specs.Reading.{many}
 use Rattle.js_units.proofs.Reading.{same_read, shortens, Shortens, Sound, Spelt, Complete, Begins, many_sound, many_complete}
 use Rattle.proof_text.specs.Numbers.{IsBetween, number_at, not_zero, signed_at}
 use Rattle.proof_text.specs.Lines.{after, ◌>>=◌}
-use Rattle.proof_text.specs.Blocks.{literal_text, hint_text, clause_text, step_text, Sizes, sizes_text, IsHint}
-use Rattle.proof_text.specs.Reading.{named, literal_at, hint_at, closing, clause_at, hints_at, step_at, sizes_at}
-use Rattle.proof_text.proofs.Parts.{after_sound, after_complete, Found, found}
+use Rattle.proof_text.specs.Blocks.{literal_text, hint_text, clause_text, step_text, IsHint}
+use Rattle.proof_text.specs.Reading.{named, literal_at, hint_at, closing, clause_at, hints_at, step_at}
+use Rattle.proof_text.proofs.Parts.{after_sound, after_complete, found}
 use Rattle.proof_text.proofs.Numerals.{apart, number_sound, number_complete, not_zero_of, not_zero_is, signed_sound, signed_complete}
 
 -- ---- several, then a word
