@@ -4,3 +4,6 @@ pub mod Composed
 pub mod Opposites
 pub mod Tables
 pub mod Asserted
+pub mod Numbers
+pub mod Lists
+pub mod Adding

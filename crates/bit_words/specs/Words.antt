@@ -1,8 +1,8 @@
 -- Words: whole numbers in two's complement, least bit first (this project's own).
-use Rattle.std.specs.Prelude.{ℕ, suc, zero, ℤ, pos, ◌+ℤ◌, neg_ℤ, Bool, true, false, ◌≡◌, ◌+◌, ◌*◌, ◌≤◌, ◌<◌, List, [], ◌∷◌, length, map, All}
+use Rattle.std.specs.Prelude.{ℕ, suc, zero, ◌^◌, replicate, ℤ, pos, ◌+ℤ◌, neg_ℤ, ◌≤ℤ◌, ◌<ℤ◌, Bool, true, false, if◌then◌else◌, ◌≡◌, ◌+◌, ◌*◌, ◌≤◌, ◌<◌, List, [], ◌∷◌, length, map, All}
 use Rattle.cnf_core.specs.Literals.{Names, lit_true}
 use Rattle.cnf_core.specs.declared.clauses.Cnf.{Cnf}
-use Rattle.bit_words.specs.Builds.{Values, Built}
+use Rattle.bit_words.specs.Builds.{Values, Built, differ}
 
 abbrev pub bit_int : Bool → ℤ
 bit_int true = pos 1
@@ -26,3 +26,24 @@ word_value v word = int_of (bits v word)
 pub record IsWord (old new : Cnf) (most : ℕ) (word : List ℤ) (f : Values → ℤ) : Type 0 where
   pub some : 0 < length word
   pub built : Built old new most word (λ v. word_value v word ≡ f v)
+
+-- the number can be written in so many bits
+abbrev pub FitsIn : ℕ → ℤ → Type 0
+FitsIn zero z = z ≡ pos 0
+FitsIn (suc k) z = (neg_ℤ (pos (2 ^ k)) ≤ℤ z) × (z <ℤ pos (2 ^ k))
+
+-- k more copies of the last item
+abbrev pub padded : {X : Type 0} → ℕ → List X → List X
+padded k [] = []
+padded k (x ∷ []) = x ∷ replicate k x
+padded k (x ∷ y ∷ ys) = x ∷ padded k (y ∷ ys)
+
+-- the bits of the sum of two words of one width, from a carry on, without the last carry
+abbrev pub sum_bits : Bool → List Bool → List Bool → List Bool
+sum_bits c (x ∷ xs) (y ∷ ys) = differ (differ x y) c ∷ sum_bits (if differ x y then c else x) xs ys
+sum_bits c _ _ = []
+
+-- these bits of a sum were made
+pub record IsSum (old new : Cnf) (a b : List ℤ) (carry : ℤ) (word : List ℤ) : Type 0 where
+  pub width : length word ≡ length a
+  pub built : Built old new (3 * length a) word (λ v. bits v word ≡ sum_bits (lit_true v carry) (bits v a) (bits v b))

@@ -3,5 +3,8 @@
 
 mod builder;
 mod gates;
+mod sums;
+mod words;
 
 pub use builder::Builder;
+pub use words::BitInt;

@@ -1,0 +1,9 @@
+use Rattle.std.proofs.Common.{ℤ, List, ◌≡◌, ◌∙◌, ap, take, rules}
+use Rattle.bit_words.specs.Words.{word_value}
+use Rattle.bit_words.proofs.Lists.{narrowed_value}
+use Rattle.bit_words.proofs.words.BitInt.narrowed.Goals as goal
+
+pub returns-clause-value : goal.returns-clause-value
+returns-clause-value c = λ v f.
+    let e : c.extend_from_slice.new.self.items ≡ take c.args.width c.args.self.now = search rules in
+    ap (word_value v) e ∙ narrowed_value v c.args.width c.args.self.now c.requires.some c.requires.fits f
