@@ -7,3 +7,7 @@ pub mod Asserted
 pub mod Numbers
 pub mod Lists
 pub mod Adding
+pub mod Equal
+pub mod Less
+pub mod Zipped
+pub mod Rows

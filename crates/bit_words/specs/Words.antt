@@ -1,8 +1,8 @@
 -- Words: whole numbers in two's complement, least bit first (this project's own).
-use Rattle.std.specs.Prelude.{ℕ, suc, zero, ◌^◌, replicate, ℤ, pos, ◌+ℤ◌, neg_ℤ, ◌≤ℤ◌, ◌<ℤ◌, Bool, true, false, if◌then◌else◌, ◌≡◌, ◌+◌, ◌*◌, ◌≤◌, ◌<◌, List, [], ◌∷◌, length, map, All}
+use Rattle.std.specs.Prelude.{ℕ, suc, zero, ◌^◌, replicate, ℤ, pos, ◌+ℤ◌, neg_ℤ, ◌≤ℤ◌, ◌<ℤ◌, Bool, true, false, not, ◌&&◌, if◌then◌else◌, ◌≡◌, ◌+◌, ◌*◌, ◌≤◌, ◌<◌, List, [], ◌∷◌, length, map, All}
 use Rattle.cnf_core.specs.Literals.{Names, lit_true}
 use Rattle.cnf_core.specs.declared.clauses.Cnf.{Cnf}
-use Rattle.bit_words.specs.Builds.{Values, Built, differ}
+use Rattle.bit_words.specs.Builds.{Values, Built, differ, majority}
 
 abbrev pub bit_int : Bool → ℤ
 bit_int true = pos 1
@@ -47,3 +47,19 @@ sum_bits c _ _ = []
 pub record IsSum (old new : Cnf) (a b : List ℤ) (carry : ℤ) (word : List ℤ) : Type 0 where
   pub width : length word ≡ length a
   pub built : Built old new (3 * length a) word (λ v. bits v word ≡ sum_bits (lit_true v carry) (bits v a) (bits v b))
+
+-- all bits agree, and c
+abbrev pub equal_bits : Bool → List Bool → List Bool → Bool
+equal_bits c (x ∷ xs) (y ∷ ys) = equal_bits (c && not (differ x y)) xs ys
+equal_bits c _ _ = c
+
+-- The first of two words of one width is less than the second, or they are equal and c: the higher bits decide over the lower
+-- ones, and the last bit counts negatively.
+abbrev pub less_bits : Bool → List Bool → List Bool → Bool
+less_bits c (x ∷ []) (y ∷ []) = majority x (not y) c
+less_bits c (x ∷ x' ∷ xs) (y ∷ y' ∷ ys) = less_bits (majority (not x) y c) (x' ∷ xs) (y' ∷ ys)
+less_bits c _ _ = c
+
+abbrev pub zip_bits : (Bool → Bool → Bool) → List Bool → List Bool → List Bool
+zip_bits f (x ∷ xs) (y ∷ ys) = f x y ∷ zip_bits f xs ys
+zip_bits f _ _ = []

@@ -2,9 +2,12 @@
 #![tactic(auto)]
 
 mod builder;
+mod comparing;
 mod gates;
+mod joining;
 mod sums;
 mod words;
 
 pub use builder::Builder;
+pub use joining::BitGate;
 pub use words::BitInt;
