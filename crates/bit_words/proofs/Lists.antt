@@ -66,3 +66,8 @@ opposites_names n (x ∷ xs) a = named_more n (neg_ℤ x) (map neg_ℤ xs) (oppo
 pub bits-opposites : (v : Values) (n : ℕ) (xs : List ℤ) → All (Names n) xs → bits v (map neg_ℤ xs) ≡ map not (bits v xs)
 bits-opposites v n [] a = refl
 bits-opposites v n (x ∷ xs) a = rw (opposite_value n x v (a 0 x (omega arith)), bits-opposites v n xs (rest_names n x xs a)) refl
+
+pub drop_names : (n k : ℕ) (xs : List ℤ) → All (Names n) xs → All (Names n) (drop k xs)
+drop_names n zero xs a = a
+drop_names n (suc k) [] a = a
+drop_names n (suc k) (x ∷ xs) a = drop_names n k xs (rest_names n x xs a)

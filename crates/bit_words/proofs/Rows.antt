@@ -3,13 +3,16 @@ use Rattle.std.proofs.Common.{ℕ, zero, suc, ℤ, pos, negsuc, ◌+ℤ◌, ◌-
 use Rattle.std.proofs.lemmas.Int.{ints}
 use Rattle.std.proofs.lemmas.List.{length-append, map-append, length-map, length-replicate}
 use Rattle.std.proofs.Math.IntN.{*ℤ-zero, zero-*ℤ, *ℤ-negsuc, suc_ℤ-*ℤ, *ℤ_comm}
+use Rattle.std.proofs.Math.Nat.{add-mul, one-mul}
+use Rattle.std.proofs.lemmas.List.Elements.{All-append}
+use Rattle.bit_words.proofs.Within.{all_later}
 use Rattle.cnf_core.specs.Literals.{Names, lit_true}
 use Rattle.cnf_core.specs.declared.clauses.Cnf.{Cnf}
 use Rattle.bit_words.specs.Builds.{Values, Built, IsGate}
 use Rattle.bit_words.specs.Words.{IsWord, bit_int, int_of, bits, word_value, padded, zip_bits}
 use Rattle.bit_words.proofs.Numbers.{int_of-more, int_of-padded}
 use Rattle.bit_words.proofs.Lists.{bits-padded}
-use Rattle.bit_words.proofs.Composed.{built_none, built_as, built_both, named_none}
+use Rattle.bit_words.proofs.Composed.{built_none, built_as, built_both, built_then, named_none}
 
 one_more : (m : ℤ) (n : ℕ) → m *ℤ pos (suc n) ≡ (m *ℤ pos n) +ℤ m
 one_more m n = *ℤ_comm m (pos (suc n)) ∙ suc_ℤ-*ℤ (pos n) m ∙ ap (λ z. z +ℤ m) (*ℤ_comm (pos n) m)
@@ -126,18 +129,50 @@ masked_int xs k true h = ap int_of (zip_mask xs k true h)
 masked_int xs k false h = ap int_of (zip_mask xs k false h) ∙ int_of-none (length xs)
 
 -- a word whose bits were masked
-pub masked_word : (s0 s1 : Cnf) (m m' w : ℕ) (a mask one out : List ℤ) (keep : ℤ) → 0 < length a → w ≡ length a → one ≡ keep ∷ [] → mask ≡ padded (w - length one) one
+pub masked_word : (s0 s1 : Cnf) (m m' w : ℕ) (a mask out : List ℤ) (keep : ℤ) → 0 < length a → w ≡ length a → mask ≡ padded (w - 1) (keep ∷ [])
   → Built s0 s1 m' out (λ v. bits v out ≡ zip_bits (λ x y. x && y) (bits v a) (bits v mask)) → m' ≤ m → length out ≡ length a
   → IsWord s0 s1 m out (λ v. if lit_true v keep then word_value v a else pos 0)
-masked_word s0 s1 m m' w a mask one out keep la ew eo em g le lo = record {
+masked_word s0 s1 m m' w a mask out keep la ew em g le lo = record {
   some = omega (arith, la, lo);
   built = built_as g le g.names (λ v p.
-    let k : ℕ = w - length one in
-    ap int_of (p ∙ ap (λ l. zip_bits (λ x y. x && y) (bits v a) l) (ap (bits v) em ∙ bits-padded v k one ∙ ap (λ l. padded k (bits v l)) eo))
-    ∙ masked_int (bits v a) (suc k) (lit_true v keep) (omega (arith, ew, ap length eo, length-map a (lit_true v))));
+    let k : ℕ = w - 1 in
+    ap int_of (p ∙ ap (λ l. zip_bits (λ x y. x && y) (bits v a) l) (ap (bits v) em ∙ bits-padded v k (keep ∷ [])))
+    ∙ masked_int (bits v a) (suc k) (lit_true v keep) (omega (arith, la, ew, length-map a (lit_true v))));
 }
 
 -- a word of copies of a literal that never holds
-pub none_word : (v : Values) (k : ℕ) (one word : List ℤ) (never : ℤ) → one ≡ never ∷ [] → word ≡ padded k one → lit_true v never ≡ false → word_value v word ≡ pos 0
-none_word v k one word never eo ew h =
-    ap (word_value v) (ew ∙ ap (padded k) eo) ∙ ap int_of (bits-padded v k (never ∷ [])) ∙ int_of-padded k (lit_true v never ∷ []) ∙ ap (λ b. neg_ℤ (bit_int b)) h
+pub none_word : (v : Values) (k : ℕ) (word : List ℤ) (never : ℤ) → word ≡ padded k (never ∷ []) → lit_true v never ≡ false → word_value v word ≡ pos 0
+none_word v k word never ew h =
+    ap (word_value v) ew ∙ ap int_of (bits-padded v k (never ∷ [])) ∙ int_of-padded k (lit_true v never ∷ []) ∙ ap (λ b. neg_ℤ (bit_int b)) h
+
+pub mul_next : (i k : ℕ) → (i + 1) * k ≡ i * k + k
+mul_next i k = add-mul i 1 k ∙ ap (λ z. i * k + z) (one-mul k)
+
+pub mul_more : (i n k : ℕ) → i < n → i * k + k ≤ n * k
+mul_more i n k h =
+    let e : n ≡ (i + 1) + (n - (i + 1)) = omega (arith, h) in
+    omega (arith, ap (λ z. z * k) e, add-mul (i + 1) (n - (i + 1)) k, mul_next i k)
+
+pub rows_step : (s0 s1 s2 s3 : Cnf) (i m n : ℕ) (a b done rows row sum next left : List ℤ) (x low never : ℤ)
+  → Built s0 s1 i [] (λ v. (lit_true v never ≡ false) × Rowing a b done rows (x ∷ left) v)
+  → IsWord s1 s2 (length a) row (λ v. if lit_true v x then word_value v a else pos 0)
+  → IsWord s2 s3 n sum (λ v. (word_value v rows +ℤ word_value v row) +ℤ bit_int (lit_true v never))
+  → 0 < length left → 1 < length sum → low ≡ get_or sum 0 low → next ≡ drop 1 sum → i + (length a + n) ≤ m
+  → Built s0 s3 m [] (λ v. (lit_true v never ≡ false) × Rowing a b (done ++ low ∷ []) next left v)
+rows_step s0 s1 s2 s3 i m n a b done rows row sum next left x low never g r s some ls el en le =
+    built_both (built_then g r.built) s.built (omega (arith, le)) (named_none s3.variables)
+      (λ v p q. (p.0.0, rowing_next v a b done rows row sum next left x low never p.0.1 some p.1 q p.0.0 ls el en))
+
+pub rows_all : (s0 s1 s2 s3 : Cnf) (i m n : ℕ) (a b done rows row rest out : List ℤ) (x never : ℤ)
+  → Built s0 s1 i [] (λ v. (lit_true v never ≡ false) × Rowing a b done rows (x ∷ []) v)
+  → IsWord s1 s2 (length a) row (λ v. if lit_true v x then word_value v a else pos 0)
+  → IsWord s2 s3 n rest (λ v. (word_value v rows -ℤ word_value v row) -ℤ bit_int (lit_true v never))
+  → i + (length a + n) ≤ m → All (Names s1.variables) done → out ≡ done ++ rest
+  → IsWord s0 s3 m out (λ v. word_value v a *ℤ word_value v b)
+rows_all s0 s1 s2 s3 i m n a b done rows row rest out x never g r s le names eo = record {
+  some = omega (arith, ap length eo, length-append done rest, s.some);
+  built = built_both (built_then g r.built) s.built (omega (arith, le))
+    (let P : List ℤ → Type 0 = λ l. All (Names s3.variables) l in
+      subst P (sym eo) (All-append (Names s3.variables) done rest (all_later s1.variables s3.variables done names (omega (arith, r.built.variables, s.built.variables))) s.built.names))
+    (λ v p q. ap (word_value v) eo ∙ rowing_all v a b done rows row rest x never p.0.1 p.1 q p.0.0 s.some);
+}

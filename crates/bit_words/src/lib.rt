@@ -5,6 +5,7 @@ mod builder;
 mod comparing;
 mod gates;
 mod joining;
+mod products;
 mod sums;
 mod words;
 

@@ -1,6 +1,6 @@
 //! Words of bits.
 
-ghost use Rattle.std.specs.Prelude.{◌≡◌, ℕ, ◌+◌, ◌-◌, ◌*◌, ◌<◌, ◌≤◌, length, List, ◌∷◌, [], map, take, drop, slice_index_or, IfOk, All, replicate, neg_ℤ};
+ghost use Rattle.std.specs.Prelude.{◌≡◌, ℕ, ◌+◌, ◌-◌, ◌*◌, ◌<◌, ◌≤◌, length, List, ◌∷◌, [], map, take, drop, slice_index_or, IfOk, OnOk, ◌++◌, All, replicate, neg_ℤ};
 ghost use Rattle.cnf_core.specs.Literals.{Names};
 ghost use Rattle.bit_words.specs.Builds.{Values};
 ghost use Rattle.bit_words.specs.Words.{FitsIn, padded, word_value};
@@ -30,6 +30,16 @@ impl BitInt {
         ensures { result ≡ bits.items }
     {
         BitInt { bits }
+    }
+
+    /// Copies of one bit: 0, or -1 where it holds.
+    pub fn repeated(alloc: Global, bit: Lit, width: usize) -> Result<BitInt, NoMemory>
+        requires some { 0 < width }
+        ensures bits { IfOk result (λ word. word ≡ padded (width - 1) (bit ∷ [])) }
+        ensures width { IfOk result (λ word. length word ≡ width) }
+    {
+        let one = BitInt::from_bits(vec![in alloc; bit]?);
+        one.extended(alloc, width)
     }
 
     /// How many bits there are. The number lies in that many.
@@ -105,6 +115,14 @@ impl BitInt {
         bits.push(low)?;
         bits.extend_from_slice(&self.bits)?;
         Ok(BitInt { bits })
+    }
+
+    /// Puts the bits behind these.
+    pub(crate) fn append_to(&self, bits: &mut Vec<Lit>) -> Result<(), NoMemory>
+        ensures { OnOk result (bits.new.items ≡ bits.old.items ++ self.now) }
+    {
+        bits.extend_from_slice(&self.bits)?;
+        Ok(())
     }
 
     /// The opposite of each bit.
