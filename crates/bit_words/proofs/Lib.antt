@@ -11,3 +11,4 @@ pub mod Equal
 pub mod Less
 pub mod Zipped
 pub mod Rows
+pub mod Dividing

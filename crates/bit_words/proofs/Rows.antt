@@ -10,6 +10,7 @@ use Rattle.cnf_core.specs.Literals.{Names, lit_true}
 use Rattle.cnf_core.specs.declared.clauses.Cnf.{Cnf}
 use Rattle.bit_words.specs.Builds.{Values, Built, IsGate}
 use Rattle.bit_words.specs.Words.{IsWord, bit_int, int_of, bits, word_value, padded, zip_bits}
+use Rattle.bit_words.specs.LongDivision.{above}
 use Rattle.bit_words.proofs.Numbers.{int_of-more, int_of-padded}
 use Rattle.bit_words.proofs.Lists.{bits-padded}
 use Rattle.bit_words.proofs.Composed.{built_none, built_as, built_both, built_then, named_none}
@@ -25,7 +26,7 @@ dist : (p q b : ℤ) → (p +ℤ q) *ℤ b ≡ (p *ℤ b) +ℤ (q *ℤ b)
 dist p q (pos n) = dist_pos p q n
 dist p q (negsuc n) = omega (arith, ints, *ℤ-negsuc (p +ℤ q) n, *ℤ-negsuc p n, *ℤ-negsuc q n, dist_pos p q (suc n))
 
-mul_step : (x : Bool) (p b : ℤ) → (bit_int x +ℤ (p +ℤ p)) *ℤ b ≡ (if x then b else pos 0) +ℤ ((p *ℤ b) +ℤ (p *ℤ b))
+pub mul_step : (x : Bool) (p b : ℤ) → (bit_int x +ℤ (p +ℤ p)) *ℤ b ≡ (if x then b else pos 0) +ℤ ((p *ℤ b) +ℤ (p *ℤ b))
 mul_step true p b = omega (arith, ints, dist (pos 1) (p +ℤ p) b, dist p p b, *ℤ_comm (pos 1) b, one_more b 0, *ℤ-zero b)
 mul_step false p b = omega (arith, ints, dist (pos 0) (p +ℤ p) b, dist p p b, zero-*ℤ b)
 
@@ -33,16 +34,11 @@ mul_last : (x : Bool) (b : ℤ) → neg_ℤ (bit_int x) *ℤ b ≡ pos 0 -ℤ (i
 mul_last true b = *ℤ_comm (negsuc 0) b ∙ *ℤ-negsuc b 0 ∙ (omega (arith, ints, one_more b 0, *ℤ-zero b))
 mul_last false b = zero-*ℤ b
 
--- the number whose lowest bits are these, and whose upper bits are the number z
-abbrev pub above : List Bool → ℤ → ℤ
-above [] z = z
-above (x ∷ xs) z = bit_int x +ℤ (above xs z +ℤ above xs z)
-
 above-append : (xs : List Bool) (x : Bool) (z : ℤ) → above (xs ++ x ∷ []) z ≡ above xs (bit_int x +ℤ (z +ℤ z))
 above-append [] x z = refl
 above-append (y ∷ ys) x z = ap (λ u. bit_int y +ℤ (u +ℤ u)) (above-append ys x z)
 
-int_of-above : (xs ys : List Bool) → 0 < length ys → int_of (xs ++ ys) ≡ above xs (int_of ys)
+pub int_of-above : (xs ys : List Bool) → 0 < length ys → int_of (xs ++ ys) ≡ above xs (int_of ys)
 int_of-above [] ys h = refl
 int_of-above (x ∷ xs) ys h = int_of-more x (xs ++ ys) (omega (arith, h, length-append xs ys)) ∙ ap (λ u. bit_int x +ℤ (u +ℤ u)) (int_of-above xs ys h)
 
@@ -70,7 +66,7 @@ regroup r s q u w e = omega (arith, ints, e)
 no_carry : (z : ℤ) → z +ℤ pos 0 ≡ z
 no_carry z = omega (arith, ints)
 
-no_borrow : (z : ℤ) → z -ℤ pos 0 ≡ z
+pub no_borrow : (z : ℤ) → z -ℤ pos 0 ≡ z
 no_borrow z = omega (arith, ints)
 
 take_last : (r c : ℤ) → r -ℤ c ≡ r +ℤ (pos 0 -ℤ c)

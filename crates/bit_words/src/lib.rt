@@ -3,6 +3,7 @@
 
 mod builder;
 mod comparing;
+mod division;
 mod gates;
 mod joining;
 mod products;
