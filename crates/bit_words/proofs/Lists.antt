@@ -1,13 +1,13 @@
 -- Words as lists of literals.
 use Rattle.std.proofs.Common.{ℤ, neg_ℤ, ℕ, zero, suc, Bool, not, ◌≡◌, ◌∙◌, sym, ap, refl, List, [], ◌∷◌, ◌++◌, length, map, take, drop, replicate, get_or, ◌+◌, ◌-◌, ◌*◌, ◌≤◌, ◌<◌, arith, subst, All, append_assoc, append-nil, add-one, drop-cons}
-use Rattle.std.proofs.lemmas.List.{length-map}
+use Rattle.std.proofs.lemmas.List.{length-map, length-take}
 use Rattle.cnf_core.specs.Literals.{Names, lit_true}
 use Rattle.bit_words.specs.Builds.{Values}
 use Rattle.bit_words.specs.Words.{padded, bits, int_of, word_value, FitsIn}
 use Rattle.bit_words.proofs.Within.{names_later}
 use Rattle.bit_words.proofs.Composed.{named_more, named_none}
 use Rattle.bit_words.proofs.Opposites.{opposite_names, opposite_value}
-use Rattle.bit_words.proofs.Numbers.{length-padded, int_of-take, int_of-padded}
+use Rattle.bit_words.proofs.Numbers.{length-padded, int_of-take, int_of-padded, int_of-fits}
 
 bits-replicate : (v : Values) (k : ℕ) (x : ℤ) → bits v (replicate k x) ≡ replicate k (lit_true v x)
 bits-replicate v zero x = refl
@@ -26,6 +26,11 @@ bits-take v (suc k) (x ∷ xs) = ap (λ l. lit_true v x ∷ l) (bits-take v k xs
 pub narrowed_value : (v : Values) (k : ℕ) (w : List ℤ) → 0 < k → k ≤ length w → FitsIn k (word_value v w) → word_value v (take k w) ≡ word_value v w
 narrowed_value v zero w h le f = absurd (omega (arith, h))
 narrowed_value v (suc k) w h le f = ap int_of (bits-take v (suc k) w) ∙ int_of-take k (bits v w) (omega (arith, le, length-map w (lit_true v))) f
+
+pub narrowed_fits : (v : Values) (k : ℕ) (w : List ℤ) → k ≤ length w → FitsIn k (word_value v (take k w))
+narrowed_fits v k w le =
+    let P : ℕ → Type 0 = λ n. FitsIn n (word_value v (take k w)) in
+    subst P (length-map (take k w) (lit_true v) ∙ length-take k w ∙ (omega (arith, le))) (int_of-fits (bits v (take k w)))
 
 pub extended_value : (v : Values) (k : ℕ) (w : List ℤ) → word_value v (padded k w) ≡ word_value v w
 extended_value v k w = ap int_of (bits-padded v k w) ∙ int_of-padded k (bits v w)

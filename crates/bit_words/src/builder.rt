@@ -43,6 +43,11 @@ impl Builder {
         }
     }
 
+    /// What the clauses take their memory from.
+    pub fn allocator(&self) -> Global {
+        self.alloc
+    }
+
     /// One more bit, of either value: its positive literal.
     pub fn new_bit(&mut self) -> Lit
         requires space { self.old.variables < 2 ^ 62 }

@@ -89,6 +89,7 @@ impl BitInt {
         requires fits { width ≤ length self.now }
         ensures bits { IfOk result (λ word. word ≡ take width self.now) }
         ensures width { IfOk result (λ word. length word ≡ width) }
+        ensures range { (v : Values) → IfOk result (λ word. FitsIn width (word_value v word)) }
         ensures value { (v : Values) → FitsIn width (word_value v self.now) →
             IfOk result (λ word. word_value v word ≡ word_value v self.now) }
     {
