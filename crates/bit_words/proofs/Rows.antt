@@ -15,14 +15,14 @@ use Rattle.bit_words.proofs.Numbers.{int_of-more, int_of-padded}
 use Rattle.bit_words.proofs.Lists.{bits-padded}
 use Rattle.bit_words.proofs.Composed.{built_none, built_as, built_both, built_then, named_none}
 
-one_more : (m : ℤ) (n : ℕ) → m *ℤ pos (suc n) ≡ (m *ℤ pos n) +ℤ m
+pub one_more : (m : ℤ) (n : ℕ) → m *ℤ pos (suc n) ≡ (m *ℤ pos n) +ℤ m
 one_more m n = *ℤ_comm m (pos (suc n)) ∙ suc_ℤ-*ℤ (pos n) m ∙ ap (λ z. z +ℤ m) (*ℤ_comm (pos n) m)
 
 dist_pos : (p q : ℤ) (n : ℕ) → (p +ℤ q) *ℤ pos n ≡ (p *ℤ pos n) +ℤ (q *ℤ pos n)
 dist_pos p q zero = *ℤ-zero (p +ℤ q) ∙ sym (ap (λ z. z +ℤ (q *ℤ pos zero)) (*ℤ-zero p) ∙ ap (λ z. pos 0 +ℤ z) (*ℤ-zero q))
 dist_pos p q (suc n) = omega (arith, ints, one_more (p +ℤ q) n, one_more p n, one_more q n, dist_pos p q n)
 
-dist : (p q b : ℤ) → (p +ℤ q) *ℤ b ≡ (p *ℤ b) +ℤ (q *ℤ b)
+pub dist : (p q b : ℤ) → (p +ℤ q) *ℤ b ≡ (p *ℤ b) +ℤ (q *ℤ b)
 dist p q (pos n) = dist_pos p q n
 dist p q (negsuc n) = omega (arith, ints, *ℤ-negsuc (p +ℤ q) n, *ℤ-negsuc p n, *ℤ-negsuc q n, dist_pos p q (suc n))
 

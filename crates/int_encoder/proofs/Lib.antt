@@ -1,0 +1,5 @@
+pub mod Orders
+pub mod Standing
+pub mod Safe
+pub mod Encoded
+pub mod Naturals

@@ -1,0 +1,105 @@
+use Rattle.std.proofs.Common.{ℕ, ℤ, List, Bool, ◌≡◌, ◌∙◌, ap, sym, rules, arith, length, max, ◌-◌, ◌+◌, ◌*◌, ◌≤◌, ◌<◌, [], ◌∷◌, refl, subst, All, ◌+ℤ◌, ◌-ℤ◌, ◌*ℤ◌, int_lt, int_le, get_or}
+use Rattle.std.specs.Ordering.{int_eq}
+use Rattle.js_values.specs.Numbers.{is_safe}
+use Rattle.js_values.specs.Integers.{quotient, rest, safe}
+use Rattle.int_encoder.specs.declared.op.IntOp.{IntOp}
+use Rattle.int_encoder.specs.declared.op.IntOp.TheVariants as op
+use Rattle.int_encoder.specs.Rows.{whole, truth, IsPart, part_count, own_cost, widest}
+use Rattle.int_encoder.proofs.Encoded.{two_of, one_of, part_at, word_row, flag_row, word_row_one, flag_row_one, eq_same, cost_mul, cost_quot, cost_rest}
+use Rattle.int_encoder.proofs.encoding.encode_int.Goals as goal
+
+pub returns-in-Eq-clause-row : goal.returns-in-Eq-clause-row
+returns-in-Eq-clause-row c =
+    let parts = c.args.parts.now in
+    let a = c.index-parts-0.result in
+    let b = c.index-parts-parts.result in
+    let n : length parts ≡ 2 = c.requires.count ∙ ap part_count c.in-Eq.is in
+    let e : parts ≡ a ∷ b ∷ [] = two_of parts a b n c.index-parts-0.is c.index-parts-parts.is in
+    let sa : 0 < length a = (part_at _ 0 parts a c.requires.parts (omega (arith, n)) c.index-parts-0.is).some in
+    let sb : 0 < length b = (part_at _ (length parts - 1) parts b c.requires.parts (omega (arith, n)) c.index-parts-parts.is).some in
+    rw c.in-Eq.is (flag_row _ _ _ op.Eq parts a b _ int_eq e (λ p q. ap truth (eq_same p q)) c.in_ok-lit-in-Eq.ensures.gate (omega (arith, sa)))
+
+pub returns-in-Less-clause-row : goal.returns-in-Less-clause-row
+returns-in-Less-clause-row c =
+    let parts = c.args.parts.now in
+    let a = c.index-parts-0.result in
+    let b = c.index-parts-parts.result in
+    let n : length parts ≡ 2 = c.requires.count ∙ ap part_count c.in-Less.is in
+    let e : parts ≡ a ∷ b ∷ [] = two_of parts a b n c.index-parts-0.is c.index-parts-parts.is in
+    let sa : 0 < length a = (part_at _ 0 parts a c.requires.parts (omega (arith, n)) c.index-parts-0.is).some in
+    let sb : 0 < length b = (part_at _ (length parts - 1) parts b c.requires.parts (omega (arith, n)) c.index-parts-parts.is).some in
+    rw c.in-Less.is (flag_row _ _ _ op.Less parts a b _ int_lt e (λ p q. refl) c.in_ok-lit-in-Less.ensures.gate (omega (arith, sa)))
+
+pub returns-in-Add-clause-row : goal.returns-in-Add-clause-row
+returns-in-Add-clause-row c =
+    let parts = c.args.parts.now in
+    let a = c.index-parts-0.result in
+    let b = c.index-parts-parts.result in
+    let n : length parts ≡ 2 = c.requires.count ∙ ap part_count c.in-Add.is in
+    let e : parts ≡ a ∷ b ∷ [] = two_of parts a b n c.index-parts-0.is c.index-parts-parts.is in
+    let sa : 0 < length a = (part_at _ 0 parts a c.requires.parts (omega (arith, n)) c.index-parts-0.is).some in
+    let sb : 0 < length b = (part_at _ (length parts - 1) parts b c.requires.parts (omega (arith, n)) c.index-parts-parts.is).some in
+    rw c.in-Add.is (word_row _ _ _ op.Add parts a b _ ◌+ℤ◌ e (λ p q. refl) c.in_ok-word-in-Add.ensures.word (omega (arith, sa)))
+
+pub returns-in-Sub-clause-row : goal.returns-in-Sub-clause-row
+returns-in-Sub-clause-row c =
+    let parts = c.args.parts.now in
+    let a = c.index-parts-0.result in
+    let b = c.index-parts-parts.result in
+    let n : length parts ≡ 2 = c.requires.count ∙ ap part_count c.in-Sub.is in
+    let e : parts ≡ a ∷ b ∷ [] = two_of parts a b n c.index-parts-0.is c.index-parts-parts.is in
+    let sa : 0 < length a = (part_at _ 0 parts a c.requires.parts (omega (arith, n)) c.index-parts-0.is).some in
+    let sb : 0 < length b = (part_at _ (length parts - 1) parts b c.requires.parts (omega (arith, n)) c.index-parts-parts.is).some in
+    rw c.in-Sub.is (word_row _ _ _ op.Sub parts a b _ ◌-ℤ◌ e (λ p q. refl) c.in_ok-word-in-Sub.ensures.word (omega (arith, sa)))
+
+pub returns-in-Mul-clause-row : goal.returns-in-Mul-clause-row
+returns-in-Mul-clause-row c =
+    let parts = c.args.parts.now in
+    let a = c.index-parts-0.result in
+    let b = c.index-parts-parts.result in
+    let n : length parts ≡ 2 = c.requires.count ∙ ap part_count c.in-Mul.is in
+    let e : parts ≡ a ∷ b ∷ [] = two_of parts a b n c.index-parts-0.is c.index-parts-parts.is in
+    let sa : 0 < length a = (part_at _ 0 parts a c.requires.parts (omega (arith, n)) c.index-parts-0.is).some in
+    let sb : 0 < length b = (part_at _ (length parts - 1) parts b c.requires.parts (omega (arith, n)) c.index-parts-parts.is).some in
+    rw c.in-Mul.is (word_row _ _ _ op.Mul parts a b _ ◌*ℤ◌ e (λ p q. refl) c.in_ok-word-in-Mul.ensures.word (cost_mul (length a) (length b) sa sb))
+
+pub returns-in-Quot-clause-row : goal.returns-in-Quot-clause-row
+returns-in-Quot-clause-row c =
+    let parts = c.args.parts.now in
+    let a = c.index-parts-0.result in
+    let b = c.index-parts-parts.result in
+    let n : length parts ≡ 2 = c.requires.count ∙ ap part_count c.in-Quot.is in
+    let e : parts ≡ a ∷ b ∷ [] = two_of parts a b n c.index-parts-0.is c.index-parts-parts.is in
+    let sa : 0 < length a = (part_at _ 0 parts a c.requires.parts (omega (arith, n)) c.index-parts-0.is).some in
+    let sb : 0 < length b = (part_at _ (length parts - 1) parts b c.requires.parts (omega (arith, n)) c.index-parts-parts.is).some in
+    rw c.in-Quot.is (word_row _ _ _ op.Quot parts a b _ quotient e (λ p q. refl) c.in_ok-word-in-Quot.ensures.word (cost_quot (length a) (length b) sa sb))
+
+pub returns-in-Rem-clause-row : goal.returns-in-Rem-clause-row
+returns-in-Rem-clause-row c =
+    let parts = c.args.parts.now in
+    let a = c.index-parts-0.result in
+    let b = c.index-parts-parts.result in
+    let n : length parts ≡ 2 = c.requires.count ∙ ap part_count c.in-Rem.is in
+    let e : parts ≡ a ∷ b ∷ [] = two_of parts a b n c.index-parts-0.is c.index-parts-parts.is in
+    let sa : 0 < length a = (part_at _ 0 parts a c.requires.parts (omega (arith, n)) c.index-parts-0.is).some in
+    let sb : 0 < length b = (part_at _ (length parts - 1) parts b c.requires.parts (omega (arith, n)) c.index-parts-parts.is).some in
+    rw c.in-Rem.is (word_row _ _ _ op.Rem parts a b _ rest e (λ p q. refl) c.in_ok-word-in-Rem.ensures.word (cost_rest (length a) (length b) sa sb))
+
+pub returns-in-Fits-clause-row : goal.returns-in-Fits-clause-row
+returns-in-Fits-clause-row c =
+    let parts = c.args.parts.now in
+    let a = c.index-parts-0.result in
+    let n : length parts ≡ 1 = c.requires.count ∙ ap part_count c.in-Fits.is in
+    let e : parts ≡ a ∷ [] = one_of parts a n c.index-parts-0.is in
+    let sa : 0 < length a = (part_at _ 0 parts a c.requires.parts (omega (arith, n)) c.index-parts-0.is).some in
+    rw c.in-Fits.is (flag_row_one _ _ _ op.Fits parts a _ is_safe e (λ p. refl) c.in_ok-lit-in-Fits.ensures.gate (omega (arith, sa)))
+
+pub returns-in-Safe-clause-row : goal.returns-in-Safe-clause-row
+returns-in-Safe-clause-row c =
+    let parts = c.args.parts.now in
+    let a = c.index-parts-0.result in
+    let n : length parts ≡ 1 = c.requires.count ∙ ap part_count c.in-Safe.is in
+    let e : parts ≡ a ∷ [] = one_of parts a n c.index-parts-0.is in
+    let sa : 0 < length a = (part_at _ 0 parts a c.requires.parts (omega (arith, n)) c.index-parts-0.is).some in
+    rw c.in-Safe.is (word_row_one _ _ _ op.Safe parts a _ safe e (λ p. refl) c.in_ok-word-in-Safe.ensures.word (omega (arith, sa)))
+
