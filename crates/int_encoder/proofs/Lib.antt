@@ -3,3 +3,4 @@ pub mod Standing
 pub mod Safe
 pub mod Encoded
 pub mod Naturals
+pub mod Lowest

@@ -140,7 +140,7 @@ split_word (suc k) (x ∷ y ∷ ys) h =
 pos_same : (m n : ℕ) → pos m ≡ pos n → m ≡ n
 pos_same m n e = omega (arith, ints, e)
 
-uint_is : (z : ℤ) (n : ℕ) (h : ℤ) → n < 4294967296 → z ≡ pos n +ℤ (pos 4294967296 *ℤ h) → to_uint32 (Some z) ≡ n
+pub uint_is : (z : ℤ) (n : ℕ) (h : ℤ) → n < 4294967296 → z ≡ pos n +ℤ (pos 4294967296 *ℤ h) → to_uint32 (Some z) ≡ n
 uint_is (pos m) n (pos h) s e = omega (arith, s, pos_same m (n + 4294967296 * h) (e ∙ ap (λ y. pos n +ℤ y) (pos-*ℤ-pos 4294967296 h)))
 uint_is (pos m) n (negsuc h) s e = absurd (omega (arith, ints, s, e ∙ ap (λ y. pos n +ℤ y) (pos-*ℤ-negsuc 4294967296 h)))
 uint_is (negsuc m) n (pos h) s e = absurd (omega (arith, ints, s, e ∙ ap (λ y. pos n +ℤ y) (pos-*ℤ-pos 4294967296 h)))

@@ -3,7 +3,7 @@ use Rattle.std.specs.Prelude.{ℕ, ℤ, pos, Bool, ◌*◌, ◌<◌, ◌≡◌, 
 use Rattle.cnf_core.specs.Literals.{Names, lit_true}
 use Rattle.cnf_core.specs.declared.clauses.Cnf.{Cnf}
 use Rattle.js_values.specs.Numbers.{equal, less, is_safe}
-use Rattle.js_values.specs.Integers.{quotient, rest, safe}
+use Rattle.js_values.specs.Integers.{quotient, rest, safe, bits_and, bits_or, bits_xor}
 use Rattle.bit_words.specs.Builds.{Values, Built}
 use Rattle.bit_words.specs.Words.{word_value}
 use Rattle.int_encoder.specs.declared.op.IntOp.{IntOp}
@@ -32,6 +32,9 @@ int_value op.Quot m n = whole (quotient m n)
 int_value op.Rem m n = whole (rest m n)
 int_value op.Fits m n = truth (is_safe m)
 int_value op.Safe m n = whole (safe m)
+int_value op.BitAnd m n = whole (bits_and m n)
+int_value op.BitOr m n = whole (bits_or m n)
+int_value op.BitXor m n = whole (bits_xor m n)
 
 -- the value at the first part and the last one, of one or two
 abbrev pub row_value : IntOp → List ℤ → Value
@@ -44,6 +47,9 @@ abbrev pub own_cost : IntOp → ℕ → ℕ
 own_cost op.Mul w = 32 * (w * w)
 own_cost op.Quot w = 64 * (w * w)
 own_cost op.Rem w = 64 * (w * w)
+own_cost op.BitAnd w = 4096
+own_cost op.BitOr w = 4096
+own_cost op.BitXor w = 4096
 own_cost _ w = 16 * w
 
 -- the bits of the widest part

@@ -4,9 +4,10 @@ ghost use Rattle.std.specs.Prelude.{◌≡◌, ℕ, ◌+◌, ◌<◌, ◌≤◌,
 ghost use Rattle.bit_words.specs.Builds.{Stands};
 ghost use Rattle.int_encoder.specs.Rows.{IsPart, IsRow, part_count, own_cost, widest, made_bits};
 
+use crate::bitwise::join_lowest;
 use crate::op::{IntBits, IntOp};
 use crate::safety::{fits, safe_or_zero};
-use bit_words::{BitInt, Builder};
+use bit_words::{BitGate, BitInt, Builder};
 use js_units::NoMemory;
 
 /// Encodes an operator on these parts, as many as it has: adds variables and clauses that have, for every assignment of the
@@ -57,6 +58,18 @@ pub fn encode_int(builder: &mut Builder, op: IntOp, parts: &[BitInt]) -> Result<
         }
         IntOp::Safe => {
             let word = safe_or_zero(builder, a)?;
+            return Ok(IntBits::Int(word));
+        }
+        IntOp::BitAnd => {
+            let word = join_lowest(builder, &BitGate::And, a, b)?;
+            return Ok(IntBits::Int(word));
+        }
+        IntOp::BitOr => {
+            let word = join_lowest(builder, &BitGate::Or, a, b)?;
+            return Ok(IntBits::Int(word));
+        }
+        IntOp::BitXor => {
+            let word = join_lowest(builder, &BitGate::Xor, a, b)?;
             return Ok(IntBits::Int(word));
         }
     }

@@ -1,6 +1,7 @@
 //! Operators on whole numbers as clauses.
 #![tactic(auto)]
 
+mod bitwise;
 mod encoding;
 mod op;
 mod safety;

@@ -22,6 +22,9 @@ pub enum IntOp {
     Fits,
     /// The number where it is safe, else 0.
     Safe,
+    BitAnd,
+    BitOr,
+    BitXor,
 }
 
 /// What was made: a number or a truth value.

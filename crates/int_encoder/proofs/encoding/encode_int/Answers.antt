@@ -1,11 +1,12 @@
 use Rattle.std.proofs.Common.{ℕ, ℤ, List, Bool, ◌≡◌, ◌∙◌, ap, sym, rules, arith, length, max, ◌-◌, ◌+◌, ◌*◌, ◌≤◌, ◌<◌, [], ◌∷◌, refl, subst, All, ◌+ℤ◌, ◌-ℤ◌, ◌*ℤ◌, int_lt, int_le, get_or}
 use Rattle.std.specs.Ordering.{int_eq}
 use Rattle.js_values.specs.Numbers.{is_safe}
-use Rattle.js_values.specs.Integers.{quotient, rest, safe}
+use Rattle.js_values.specs.Integers.{quotient, rest, safe, bits_and, bits_or, bits_xor}
 use Rattle.int_encoder.specs.declared.op.IntOp.{IntOp}
 use Rattle.int_encoder.specs.declared.op.IntOp.TheVariants as op
 use Rattle.int_encoder.specs.Rows.{whole, truth, IsPart, part_count, own_cost, widest}
 use Rattle.int_encoder.proofs.Encoded.{two_of, one_of, part_at, word_row, flag_row, word_row_one, flag_row_one, eq_same, cost_mul, cost_quot, cost_rest}
+use Rattle.int_encoder.proofs.Lowest.{and_word, or_word, xor_word}
 use Rattle.int_encoder.proofs.encoding.encode_int.Goals as goal
 
 pub returns-in-Eq-clause-row : goal.returns-in-Eq-clause-row
@@ -102,4 +103,40 @@ returns-in-Safe-clause-row c =
     let e : parts ≡ a ∷ [] = one_of parts a n c.index-parts-0.is in
     let sa : 0 < length a = (part_at _ 0 parts a c.requires.parts (omega (arith, n)) c.index-parts-0.is).some in
     rw c.in-Safe.is (word_row_one _ _ _ op.Safe parts a _ safe e (λ p. refl) c.in_ok-word-in-Safe.ensures.word (omega (arith, sa)))
+
+pub returns-in-BitAnd-clause-row : goal.returns-in-BitAnd-clause-row
+returns-in-BitAnd-clause-row c =
+    let parts = c.args.parts.now in
+    let a = c.index-parts-0.result in
+    let b = c.index-parts-parts.result in
+    let n : length parts ≡ 2 = c.requires.count ∙ ap part_count c.in-BitAnd.is in
+    let e : parts ≡ a ∷ b ∷ [] = two_of parts a b n c.index-parts-0.is c.index-parts-parts.is in
+    let sa : 0 < length a = (part_at _ 0 parts a c.requires.parts (omega (arith, n)) c.index-parts-0.is).some in
+    let sb : 0 < length b = (part_at _ (length parts - 1) parts b c.requires.parts (omega (arith, n)) c.index-parts-parts.is).some in
+    let w = and_word _ _ a b _ sa sb c.in_ok-word-in-BitAnd.ensures.width c.in_ok-word-in-BitAnd.ensures.bits in
+    rw c.in-BitAnd.is (word_row _ _ _ op.BitAnd parts a b _ bits_and e (λ p q. refl) w (omega arith))
+
+pub returns-in-BitOr-clause-row : goal.returns-in-BitOr-clause-row
+returns-in-BitOr-clause-row c =
+    let parts = c.args.parts.now in
+    let a = c.index-parts-0.result in
+    let b = c.index-parts-parts.result in
+    let n : length parts ≡ 2 = c.requires.count ∙ ap part_count c.in-BitOr.is in
+    let e : parts ≡ a ∷ b ∷ [] = two_of parts a b n c.index-parts-0.is c.index-parts-parts.is in
+    let sa : 0 < length a = (part_at _ 0 parts a c.requires.parts (omega (arith, n)) c.index-parts-0.is).some in
+    let sb : 0 < length b = (part_at _ (length parts - 1) parts b c.requires.parts (omega (arith, n)) c.index-parts-parts.is).some in
+    let w = or_word _ _ a b _ sa sb c.in_ok-word-in-BitOr.ensures.width c.in_ok-word-in-BitOr.ensures.bits in
+    rw c.in-BitOr.is (word_row _ _ _ op.BitOr parts a b _ bits_or e (λ p q. refl) w (omega arith))
+
+pub returns-in-BitXor-clause-row : goal.returns-in-BitXor-clause-row
+returns-in-BitXor-clause-row c =
+    let parts = c.args.parts.now in
+    let a = c.index-parts-0.result in
+    let b = c.index-parts-parts.result in
+    let n : length parts ≡ 2 = c.requires.count ∙ ap part_count c.in-BitXor.is in
+    let e : parts ≡ a ∷ b ∷ [] = two_of parts a b n c.index-parts-0.is c.index-parts-parts.is in
+    let sa : 0 < length a = (part_at _ 0 parts a c.requires.parts (omega (arith, n)) c.index-parts-0.is).some in
+    let sb : 0 < length b = (part_at _ (length parts - 1) parts b c.requires.parts (omega (arith, n)) c.index-parts-parts.is).some in
+    let w = xor_word _ _ a b _ sa sb c.in_ok-word-in-BitXor.ensures.width c.in_ok-word-in-BitXor.ensures.bits in
+    rw c.in-BitXor.is (word_row _ _ _ op.BitXor parts a b _ bits_xor e (λ p q. refl) w (omega arith))
 
