@@ -51,7 +51,7 @@ impl Builder {
             let row = self.masked(a, b.bit(i))?;
             let sum = self.add_from(&rows, &row, never)?;
             bits.push(sum.bit(0))?;
-            rows = sum.upper(self.alloc)?;
+            rows = sum.upper(self.alloc, 1)?;
         }
         let row = self.masked(a, b.bit(last))?;
         let rest = self.subtract_from(&rows, &row, never)?;

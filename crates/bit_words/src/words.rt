@@ -98,13 +98,23 @@ impl BitInt {
         Ok(BitInt { bits })
     }
 
-    /// All bits but the first.
-    pub fn upper(&self, alloc: Global) -> Result<BitInt, NoMemory>
-        requires some { 0 < length self.now }
-        ensures { IfOk result (λ word. word ≡ drop 1 self.now) }
+    /// All bits but the first ones, of which there are fewer than bits.
+    pub fn upper(&self, alloc: Global, from: usize) -> Result<BitInt, NoMemory>
+        requires some { from < length self.now }
+        ensures bits { IfOk result (λ word. word ≡ drop from self.now) }
     {
         let mut bits = Vec::new(alloc);
-        bits.extend_from_slice(&self.bits[1..])?;
+        bits.extend_from_slice(&self.bits[from..])?;
+        Ok(BitInt { bits })
+    }
+
+    /// The bits, and then those of the other word.
+    pub fn followed_by(&self, alloc: Global, upper: &BitInt) -> Result<BitInt, NoMemory>
+        ensures bits { IfOk result (λ word. word ≡ self.now ++ upper.now) }
+    {
+        let mut bits = Vec::new(alloc);
+        bits.extend_from_slice(&self.bits)?;
+        upper.append_to(&mut bits)?;
         Ok(BitInt { bits })
     }
 

@@ -4,3 +4,4 @@ pub mod Safe
 pub mod Encoded
 pub mod Naturals
 pub mod Lowest
+pub mod Shifting

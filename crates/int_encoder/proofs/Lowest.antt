@@ -10,8 +10,8 @@ use Rattle.bit_words.specs.Words.{IsWord, bits, word_value, int_of, padded, zip_
 use Rattle.bit_words.proofs.Composed.{built_as}
 use Rattle.bit_words.proofs.Lists.{bits-take, bits-padded, padded_names, take_names, extended_value}
 use Rattle.bit_words.proofs.Numbers.{length-padded}
-use Rattle.int_encoder.specs.Bits.{low_bits}
-use Rattle.int_encoder.proofs.Naturals.{nat_of, nat_below, split_word, uint_is, signed_word, zipped_and, zipped_or, zipped_xor}
+use Rattle.int_encoder.specs.Bits.{low_bits, nat_of}
+use Rattle.int_encoder.proofs.Naturals.{nat_below, split_word, uint_is, signed_word, zipped_and, zipped_or, zipped_xor}
 
 pub low_names : (n : ℕ) (a : List ℤ) → All (Names n) a → All (Names n) (low_bits a)
 low_names n a h = take_names n 32 (padded (max (length a) 33 - length a) a) (padded_names n (max (length a) 33 - length a) a h)

@@ -9,15 +9,8 @@ use Rattle.std.proofs.lemmas.Int.{ints}
 use Rattle.js_values.specs.Numbers.{to_uint32, signed, all_bits, bitwise}
 use Rattle.bit_words.specs.Builds.{differ}
 use Rattle.bit_words.specs.Words.{bit_int, int_of, zip_bits}
+use Rattle.int_encoder.specs.Bits.{nat_bit, nat_of}
 use Rattle.bit_words.proofs.Numbers.{int_of-more}
-
-abbrev pub nat_bit : Bool → ℕ
-nat_bit true = 1
-nat_bit false = 0
-
-abbrev pub nat_of : List Bool → ℕ
-nat_of [] = 0
-nat_of (x ∷ xs) = nat_bit x + 2 * nat_of xs
 
 odd_rest : (x : Bool) (n : ℕ) → (nat_bit x + 2 * n) % 2 ≡ nat_bit x
 odd_rest true n = omega arith
@@ -137,7 +130,7 @@ split_word (suc k) (x ∷ []) h = absurd (omega (arith, h))
 split_word (suc k) (x ∷ y ∷ ys) h =
     split_step x (nat_of (take k (y ∷ ys))) (2 ^ k) (2 ^ suc k) (int_of (y ∷ ys)) (int_of (drop k (y ∷ ys))) (pow-succ' 2 k) (split_word k (y ∷ ys) (omega (arith, h)))
 
-pos_same : (m n : ℕ) → pos m ≡ pos n → m ≡ n
+pub pos_same : (m n : ℕ) → pos m ≡ pos n → m ≡ n
 pos_same m n e = omega (arith, ints, e)
 
 pub uint_is : (z : ℤ) (n : ℕ) (h : ℤ) → n < 4294967296 → z ≡ pos n +ℤ (pos 4294967296 *ℤ h) → to_uint32 (Some z) ≡ n

@@ -58,14 +58,14 @@ rows-preserved c =
     let names = sum.built.names in
     record {
       built = rw c.in_ok-push.ensures.items (rows_step _ _ _ _ _ _ _ a b c.rows.bits.items c.rows.rows _ _ _ left x low c.in_ok-never.never i row sum
-        (omega (arith, length-drop (c.rows.i + 1) b)) (omega (arith, ws, la)) c.bit-in-rows.ensures c.in_ok-rows-2.ensures
+        (omega (arith, length-drop (c.rows.i + 1) b)) (omega (arith, ws, la)) c.bit-in-rows.ensures c.in_ok-rows-2.ensures.bits
         (omega (arith, mul_next c.rows.i k, c.in_ok-row.ensures.width, c.rows.invariant.width)));
       never = names_later _ _ c.in_ok-never.never c.rows.invariant.never (omega (arith, row.built.variables, sum.built.variables));
-      rows = rw c.in_ok-rows-2.ensures (drop_names _ 1 c.in_ok-sum.sum names);
+      rows = rw c.in_ok-rows-2.ensures.bits (drop_names _ 1 c.in_ok-sum.sum names);
       bits = rw c.in_ok-push.ensures.items (All-append (Names _) c.rows.bits.items (low ∷ [])
         (all_later _ _ c.rows.bits.items c.rows.invariant.bits (omega (arith, row.built.variables, sum.built.variables)))
         (named_one _ low (name_at _ _ c.in_ok-sum.sum 0 low names (omega (arith, ws)) c.bit-in-rows.ensures (omega arith))));
-      width = ap length c.in_ok-rows-2.ensures ∙ (omega (arith, length-drop 1 c.in_ok-sum.sum, ws));
+      width = ap length c.in_ok-rows-2.ensures.bits ∙ (omega (arith, length-drop 1 c.in_ok-sum.sum, ws));
       length = ap length c.in_ok-push.ensures.items ∙ length-append c.rows.bits.items (low ∷ []) ∙ ap (λ n. n + 1) c.rows.invariant.length;
     }
 

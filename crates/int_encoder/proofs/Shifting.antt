@@ -1,0 +1,140 @@
+-- Shifts, stage by stage.
+use Rattle.std.proofs.Common.{ℕ, zero, suc, ℤ, pos, negsuc, neg_ℤ, ◌+ℤ◌, ◌-ℤ◌, ◌*ℤ◌, Bool, true, false, if◌then◌else◌, ◌≡◌, ◌∙◌, sym, ap, refl, subst, arith, ◌<◌, ◌≤◌, ◌+◌, ◌-◌, ◌*◌, ◌/◌, ◌%◌, ◌^◌, max, nat_lt, List, [], ◌∷◌, ◌++◌, length, map, take, drop, replicate, get_or, All, Some}
+use Rattle.std.proofs.lemmas.Int.{ints}
+use Rattle.std.proofs.lemmas.List.{length-map, length-take, length-append, length-replicate, map-append}
+use Rattle.std.proofs.lemmas.Nat.{pow-add, mul-mod_first, mod-mul-add, pow_pos}
+use Rattle.std.proofs.Math.Nat.{pow-succ', div-div-eq-div-mul, mod-eq_of_lt}
+use Rattle.std.proofs.Math.IntN.{pos-*ℤ-pos, pos-*ℤ-negsuc}
+use Rattle.cnf_core.specs.Literals.{Names, lit_true}
+use Rattle.cnf_core.specs.declared.clauses.Cnf.{Cnf}
+use Rattle.js_values.specs.Numbers.{to_uint32, to_int32, signed, all_bits, halved, shift_count}
+use Rattle.js_values.specs.Integers.{bits_left, bits_right, bits_right_zero}
+use Rattle.bit_words.specs.Builds.{Values, Built}
+use Rattle.bit_words.specs.Words.{IsWord, bits, word_value, int_of, bit_int, padded}
+use Rattle.bit_words.proofs.Numbers.{int_of-more}
+use Rattle.int_encoder.specs.Bits.{low_bits, nat_bit, nat_of, shift_count_of, raised, IsRaised}
+use Rattle.int_encoder.proofs.Naturals.{nat_below, split_word, signed_word, uint_is, pos_same}
+use Rattle.int_encoder.proofs.Lowest.{low_value, low_length}
+
+-- ---- to the right
+
+div_exact : (p n h : ℕ) → n < p → (n + p * h) / p ≡ h
+div_exact p n h l = grind (arith, l)
+
+mul-suc : (p h : ℕ) → p * suc h ≡ p + p * h
+mul-suc p h = omega arith
+
+div_one : (a : ℕ) → a / 2 ^ 0 ≡ a
+div_one a = grind arith
+
+halved_is : (k : ℕ) (z h : ℤ) (n p : ℕ) → p ≡ 2 ^ k → n < p → z ≡ pos n +ℤ (pos p *ℤ h) → h ≡ halved z k
+halved_is k (pos m) (pos h) n p ep l e =
+    let f : m ≡ n + p * h = pos_same m (n + p * h) (e ∙ ap (λ y. pos n +ℤ y) (pos-*ℤ-pos p h)) in
+    ap pos (sym (div_exact p n h l) ∙ ap (λ x. x / p) (sym f) ∙ ap (λ x. m / x) ep)
+halved_is k (pos m) (negsuc h) n p ep l e = absurd (omega (arith, ints, l, mul-suc p h, e ∙ ap (λ y. pos n +ℤ y) (pos-*ℤ-negsuc p h)))
+halved_is k (negsuc m) (pos h) n p ep l e = absurd (omega (arith, ints, l, e ∙ ap (λ y. pos n +ℤ y) (pos-*ℤ-pos p h)))
+halved_is k (negsuc m) (negsuc h) n p ep l e =
+    let f : m ≡ (p - 1 - n) + p * h = omega (arith, ints, l, mul-suc p h, e ∙ ap (λ y. pos n +ℤ y) (pos-*ℤ-negsuc p h)) in
+    ap negsuc (sym (div_exact p (p - 1 - n) h (omega (arith, l))) ∙ ap (λ x. x / p) (sym f) ∙ ap (λ x. m / x) ep)
+
+-- all bits but the first k
+pub upper_value : (k : ℕ) (xs : List Bool) → k < length xs → int_of (drop k xs) ≡ halved (int_of xs) k
+upper_value k xs h =
+    halved_is k (int_of xs) (int_of (drop k xs)) (nat_of (take k xs)) (2 ^ k) refl
+      (let e : length (take k xs) ≡ k = length-take k xs ∙ (omega (arith, h)) in let P : ℕ → Type 0 = λ m. nat_of (take k xs) < 2 ^ m in subst P e (nat_below (take k xs)))
+      (split_word k xs h)
+
+bits-drop : (v : Values) (k : ℕ) (w : List ℤ) → bits v (drop k w) ≡ drop k (bits v w)
+bits-drop v zero w = refl
+bits-drop v (suc k) [] = refl
+bits-drop v (suc k) (x ∷ xs) = bits-drop v k xs
+
+pub upper_word : (v : Values) (k : ℕ) (w : List ℤ) → k < length w → word_value v (drop k w) ≡ halved (word_value v w) k
+upper_word v k w h = ap int_of (bits-drop v k w) ∙ upper_value k (bits v w) (omega (arith, h, length-map w (lit_true v)))
+
+halved_twice : (z : ℤ) (m n : ℕ) → halved (halved z m) n ≡ halved z (m + n)
+halved_twice (pos a) m n = ap pos (div-div-eq-div-mul a (2 ^ m) (2 ^ n) ∙ ap (λ x. a / x) (sym (pow-add 2 m n)))
+halved_twice (negsuc a) m n = ap negsuc (div-div-eq-div-mul a (2 ^ m) (2 ^ n) ∙ ap (λ x. a / x) (sym (pow-add 2 m n)))
+
+halved_none : (z : ℤ) → halved z 0 ≡ z
+halved_none (pos a) = ap pos (div_one a)
+halved_none (negsuc a) = ap negsuc (div_one a)
+
+-- one stage more
+halved_stage : (c : Bool) (z y : ℤ) (s by : ℕ) → y ≡ halved z s → (if c then halved y by else y) ≡ halved z (s + by * nat_bit c)
+halved_stage true z y s by e = ap (λ x. halved x by) e ∙ halved_twice z s by ∙ ap (halved z) (let f : s + by ≡ s + by * 1 = omega arith in f)
+halved_stage false z y s by e = e ∙ ap (halved z) (let f : s ≡ s + by * 0 = omega arith in f)
+
+five_bits : (a b c d e : Bool) → ((((0 + 1 * nat_bit a) + 2 * nat_bit b) + 4 * nat_bit c) + 8 * nat_bit d) + 16 * nat_bit e ≡ nat_of (a ∷ b ∷ c ∷ d ∷ e ∷ [])
+five_bits a b c d e = omega arith
+
+take_five : (v : Values) (w : List ℤ) (a b c d e : ℤ) → 5 ≤ length w → a ≡ get_or w 0 a → b ≡ get_or w 1 b → c ≡ get_or w 2 c → d ≡ get_or w 3 d → e ≡ get_or w 4 e
+  → nat_of (lit_true v a ∷ lit_true v b ∷ lit_true v c ∷ lit_true v d ∷ lit_true v e ∷ []) ≡ shift_count_of v w
+take_five v [] a b c d e h ea eb ec ed ee = absurd (omega (arith, h))
+take_five v (p ∷ []) a b c d e h ea eb ec ed ee = absurd (omega (arith, h))
+take_five v (p ∷ q ∷ []) a b c d e h ea eb ec ed ee = absurd (omega (arith, h))
+take_five v (p ∷ q ∷ r ∷ []) a b c d e h ea eb ec ed ee = absurd (omega (arith, h))
+take_five v (p ∷ q ∷ r ∷ s ∷ []) a b c d e h ea eb ec ed ee = absurd (omega (arith, h))
+take_five v (p ∷ q ∷ r ∷ s ∷ t ∷ w) a b c d e h ea eb ec ed ee = rw (ea, eb, ec, ed, ee) refl
+
+pub halved_five : (v : Values) (count : List ℤ) (z y1 y2 y3 y4 y5 : ℤ) (a b c d e : ℤ) → 5 ≤ length count
+  → a ≡ get_or count 0 a → b ≡ get_or count 1 b → c ≡ get_or count 2 c → d ≡ get_or count 3 d → e ≡ get_or count 4 e
+  → y1 ≡ (if lit_true v a then halved z 1 else z) → y2 ≡ (if lit_true v b then halved y1 2 else y1) → y3 ≡ (if lit_true v c then halved y2 4 else y2)
+  → y4 ≡ (if lit_true v d then halved y3 8 else y3) → y5 ≡ (if lit_true v e then halved y4 16 else y4)
+  → y5 ≡ halved z (shift_count_of v count)
+halved_five v count z y1 y2 y3 y4 y5 a b c d e h ea eb ec ed ee e1 e2 e3 e4 e5 =
+    let s1 = e1 ∙ halved_stage (lit_true v a) z z 0 1 (sym (halved_none z)) in
+    let s2 = e2 ∙ halved_stage (lit_true v b) z y1 _ 2 s1 in
+    let s3 = e3 ∙ halved_stage (lit_true v c) z y2 _ 4 s2 in
+    let s4 = e4 ∙ halved_stage (lit_true v d) z y3 _ 8 s3 in
+    let s5 = e5 ∙ halved_stage (lit_true v e) z y4 _ 16 s4 in
+    s5 ∙ ap (halved z) (five_bits (lit_true v a) (lit_true v b) (lit_true v c) (lit_true v d) (lit_true v e) ∙ take_five v count a b c d e h ea eb ec ed ee)
+
+-- ---- the count
+
+nat_step : (x : Bool) (n t p q d : ℕ) → q ≡ 2 * p → n ≡ t + p * d → nat_bit x + 2 * n ≡ (nat_bit x + 2 * t) + q * d
+nat_step x n t p q d e f = rw (e, f) (grind arith)
+
+nat_split : (k : ℕ) (xs : List Bool) → k ≤ length xs → nat_of xs ≡ nat_of (take k xs) + 2 ^ k * nat_of (drop k xs)
+nat_split zero xs h = omega arith
+nat_split (suc k) [] h = absurd (omega (arith, h))
+nat_split (suc k) (x ∷ xs) h = nat_step x (nat_of xs) (nat_of (take k xs)) (2 ^ k) (2 ^ suc k) (nat_of (drop k xs)) (pow-succ' 2 k) (nat_split k xs (omega (arith, h)))
+
+taken_below : (k : ℕ) (xs : List Bool) → k ≤ length xs → nat_of (take k xs) < 2 ^ k
+taken_below k xs h =
+    let e : length (take k xs) ≡ k = length-take k xs ∙ (omega (arith, h)) in
+    let P : ℕ → Type 0 = λ m. nat_of (take k xs) < 2 ^ m in subst P e (nat_below (take k xs))
+
+five_of : (n t r : ℕ) → n ≡ t + 32 * r → t < 32 → n % 32 ≡ t
+five_of n t r e h = omega (arith, e, h)
+
+pub count_is : (v : Values) (b : List ℤ) → 0 < length b → shift_count (Some (word_value v b)) ≡ shift_count_of v (low_bits b)
+count_is v b h =
+    let xs = bits v (low_bits b) in
+    let l : length xs ≡ 32 = length-map (low_bits b) (lit_true v) ∙ low_length b h in
+    ap (λ n. n % 32) (low_value v b h) ∙ five_of (nat_of xs) (nat_of (take 5 xs)) (nat_of (drop 5 xs)) (nat_split 5 xs (omega (arith, l))) (taken_below 5 xs (omega (arith, l)))
+
+pub right_value : (v : Values) (a b word : List ℤ) → 0 < length a → 0 < length b → word_value v word ≡ halved (word_value v (low_bits a)) (shift_count_of v (low_bits b))
+  → word_value v word ≡ bits_right (word_value v a) (word_value v b)
+right_value v a b word ha hb e =
+    e ∙ ap (λ z. halved z (shift_count_of v (low_bits b)))
+          (signed_word (bits v (low_bits a)) (length-map (low_bits a) (lit_true v) ∙ low_length a ha) ∙ ap signed (sym (low_value v a ha)))
+      ∙ ap (halved (to_int32 (Some (word_value v a)))) (sym (count_is v b hb))
+
+whole_step : (x : Bool) (xs : List Bool) (n : ℕ) → 0 < length xs → int_of xs ≡ pos n → int_of (x ∷ xs) ≡ pos (nat_bit x + 2 * n)
+whole_step true xs n h e = int_of-more true xs h ∙ (omega (arith, ints, e))
+whole_step false xs n h e = int_of-more false xs h ∙ (omega (arith, ints, e))
+
+-- bits below a sign that doesn't hold
+whole_int : (xs : List Bool) → int_of (xs ++ false ∷ []) ≡ pos (nat_of xs)
+whole_int [] = refl
+whole_int (x ∷ xs) = whole_step x (xs ++ false ∷ []) (nat_of xs) (omega (arith, length-append xs (false ∷ []))) (whole_int xs)
+
+pub right_zero_value : (v : Values) (a b whole sign word : List ℤ) (never : ℤ) → 0 < length a → 0 < length b → sign ≡ never ∷ [] → whole ≡ low_bits a ++ sign → lit_true v never ≡ false
+  → word_value v word ≡ halved (word_value v whole) (shift_count_of v (low_bits b))
+  → word_value v word ≡ bits_right_zero (word_value v a) (word_value v b)
+right_zero_value v a b whole sign word never ha hb es ew en e =
+    e ∙ ap (λ z. halved z (shift_count_of v (low_bits b)))
+          (ap (word_value v) (ew ∙ ap (λ l. low_bits a ++ l) es) ∙ ap int_of (map-append (lit_true v) (low_bits a) (never ∷ []))
+           ∙ ap (λ x. int_of (bits v (low_bits a) ++ x ∷ [])) en ∙ whole_int (bits v (low_bits a)) ∙ ap pos (sym (low_value v a ha)))
+      ∙ ap (λ s. pos (to_uint32 (Some (word_value v a)) / 2 ^ s)) (sym (count_is v b hb))
