@@ -11,6 +11,9 @@ use Rattle.js_values.specs.Numbers.{to_uint32, to_int32, signed, all_bits, halve
 use Rattle.js_values.specs.Integers.{bits_left, bits_right, bits_right_zero}
 use Rattle.bit_words.specs.Builds.{Values, Built}
 use Rattle.bit_words.specs.Words.{IsWord, bits, word_value, int_of, bit_int, padded}
+use Rattle.std.proofs.Math.Nat.{mul-le-mul, le_refl, mul_comm}
+use Rattle.bit_words.proofs.Rows.{mul_next}
+use Rattle.bit_words.proofs.Lists.{bits-padded, bits-take}
 use Rattle.bit_words.proofs.Numbers.{int_of-more}
 use Rattle.int_encoder.specs.Bits.{low_bits, nat_bit, nat_of, shift_count_of, raised, IsRaised}
 use Rattle.int_encoder.proofs.Naturals.{nat_below, split_word, signed_word, uint_is, pos_same}
@@ -138,3 +141,109 @@ right_zero_value v a b whole sign word never ha hb es ew en e =
           (ap (word_value v) (ew ∙ ap (λ l. low_bits a ++ l) es) ∙ ap int_of (map-append (lit_true v) (low_bits a) (never ∷ []))
            ∙ ap (λ x. int_of (bits v (low_bits a) ++ x ∷ [])) en ∙ whole_int (bits v (low_bits a)) ∙ ap pos (sym (low_value v a ha)))
       ∙ ap (λ s. pos (to_uint32 (Some (word_value v a)) / 2 ^ s)) (sym (count_is v b hb))
+
+-- ---- to the left
+
+zero_step : (k n : ℕ) → 0 + 2 * (2 ^ k * n) ≡ 2 ^ suc k * n
+zero_step k n = rw (pow-succ' 2 k) (grind arith)
+
+zeros_below : (k : ℕ) (ys : List Bool) → nat_of (replicate k false ++ ys) ≡ 2 ^ k * nat_of ys
+zeros_below zero ys = omega arith
+zeros_below (suc k) ys = ap (λ n. 0 + 2 * n) (zeros_below k ys) ∙ zero_step k (nat_of ys)
+
+below_product : (t p q : ℕ) → t < p → 0 < q → q * t < p * q
+below_product t p q h g =
+    let e : (t + 1) * q ≤ p * q = mul-le-mul (omega (arith, h)) (le_refl q) in
+    omega (arith, e, g, mul_next t q, mul_comm q t)
+
+raised_mod : (n t p q d : ℕ) (m : ℕ) → p * q ≡ m → t < p → 0 < q → n ≡ t + p * d → (n * q) % m ≡ q * t
+raised_mod n t p q d m e h g f =
+    let w : n * q ≡ d * m + q * t = rw (f, sym e) (grind arith) in
+    ap (λ x. x % m) w ∙ mod-mul-add d m (q * t) (rw (sym e) (below_product t p q h g))
+
+signed_same : (m n : ℕ) → m < 4294967296 → n < 4294967296 → signed m ≡ signed n → m ≡ n
+signed_same m n h g e = grind (arith, ints, h, g, e)
+
+mod_less : (n : ℕ) → n % 4294967296 < 4294967296
+mod_less n = omega arith
+
+zeros_bits : (v : Values) (by : ℕ) (zeros : List ℤ) (never : ℤ) → 0 < by → zeros ≡ padded (by - 1) (never ∷ []) → lit_true v never ≡ false → bits v zeros ≡ replicate by false
+zeros_bits v zero zeros never h e en = absurd (omega (arith, h))
+zeros_bits v (suc k) zeros never h e en =
+    ap (bits v) e ∙ bits-padded v (suc k - 1) (never ∷ []) ∙ ap (λ b. b ∷ replicate (suc k - 1) b) en ∙ ap (λ n. false ∷ replicate n false) (let f : suc k - 1 ≡ k = omega arith in f)
+
+moved_value : (v : Values) (a lower zeros moved : List ℤ) (by w : ℕ) (never : ℤ) → length a ≡ 32 → 0 < by → by < 32 → w ≡ length a → lower ≡ take (w - by) a
+  → zeros ≡ padded (by - 1) (never ∷ []) → moved ≡ zeros ++ lower → lit_true v never ≡ false → word_value v moved ≡ raised (nat_of (bits v a)) by
+moved_value v a lower zeros moved by w never la some few ew el ez em en =
+    let xs = bits v a in
+    let k : ℕ = w - by in
+    let lx : length xs ≡ 32 = length-map a (lit_true v) ∙ la in
+    let lk : k ≤ length xs = omega (arith, ew, la, lx) in
+    let zb = zeros_bits v by zeros never some ez en in
+    let mb : bits v moved ≡ replicate by false ++ take k xs =
+        ap (bits v) em ∙ map-append (lit_true v) zeros lower ∙ ap (λ l. l ++ bits v lower) zb ∙ ap (λ l. replicate by false ++ l) (ap (bits v) el ∙ bits-take v k a) in
+    let lm : length (bits v moved) ≡ 32 =
+        ap length mb ∙ length-append (replicate by false) (take k xs) ∙ (omega (arith, length-replicate by false, length-take k xs, lx, ew, la, few)) in
+    let pq : 2 ^ k * 2 ^ by ≡ 4294967296 = sym (pow-add 2 k by) ∙ ap (λ n. 2 ^ n) (let f : k + by ≡ 32 = omega (arith, ew, la, few) in f) in
+    signed_word (bits v moved) lm
+    ∙ ap signed (ap nat_of mb ∙ zeros_below by (take k xs)
+        ∙ sym (raised_mod (nat_of xs) (nat_of (take k xs)) (2 ^ k) (2 ^ by) (nat_of (drop k xs)) 4294967296 pq (taken_below k xs lk) (pow_pos by) (nat_split k xs lk)))
+
+pub raised_word : (v : Values) (a lower zeros moved word : List ℤ) (by w : ℕ) (when never : ℤ) → length a ≡ 32 → 0 < by → by < 32 → w ≡ length a → lower ≡ take (w - by) a
+  → zeros ≡ padded (by - 1) (never ∷ []) → moved ≡ zeros ++ lower
+  → word_value v word ≡ (if lit_true v when then word_value v moved else word_value v a) → IsRaised a by when never word v
+raised_word v a lower zeros moved word by w when never la some few ew el ez em p en =
+    p ∙ ap (λ z. if lit_true v when then z else word_value v a) (moved_value v a lower zeros moved by w never la some few ew el ez em en)
+      ∙ ap (λ z. if lit_true v when then raised (nat_of (bits v a)) by else z) (signed_word (bits v a) (length-map a (lit_true v) ∙ la))
+
+word_below : (v : Values) (a : List ℤ) → length a ≡ 32 → nat_of (bits v a) < 4294967296
+word_below v a la = let P : ℕ → Type 0 = λ m. nat_of (bits v a) < 2 ^ m in subst P (length-map a (lit_true v) ∙ la) (nat_below (bits v a))
+
+if_signed : (c : Bool) (m n : ℕ) → (if c then signed m else signed n) ≡ signed (if c then m else n)
+if_signed true m n = refl
+if_signed false m n = refl
+
+if_below : (c : Bool) (m n : ℕ) → m < 4294967296 → n < 4294967296 → (if c then m else n) < 4294967296
+if_below true m n h g = h
+if_below false m n h g = g
+
+-- one stage on the numbers without sign
+stage_nat : (v : Values) (a word : List ℤ) (by : ℕ) (when never : ℤ) → length a ≡ 32 → length word ≡ 32 → IsRaised a by when never word v → lit_true v never ≡ false
+  → nat_of (bits v word) ≡ (if lit_true v when then (nat_of (bits v a) * 2 ^ by) % 4294967296 else nat_of (bits v a))
+stage_nat v a word by when never la lw r en =
+    let n = nat_of (bits v a) in
+    let m = (n * 2 ^ by) % 4294967296 in
+    signed_same (nat_of (bits v word)) (if lit_true v when then m else n) (word_below v word lw) (if_below (lit_true v when) m n (mod_less (n * 2 ^ by)) (word_below v a la))
+      (sym (signed_word (bits v word) (length-map word (lit_true v) ∙ lw)) ∙ r en ∙ if_signed (lit_true v when) m n)
+
+product_of : (u p q : ℕ) → (u * p) * q ≡ u * (p * q)
+product_of u p q = grind arith
+
+raise_stage : (c : Bool) (u n y s by : ℕ) → n ≡ (u * 2 ^ s) % 4294967296 → y ≡ (if c then (n * 2 ^ by) % 4294967296 else n) → y ≡ (u * 2 ^ (s + by * nat_bit c)) % 4294967296
+raise_stage true u n y s by e f =
+    f ∙ ap (λ x. (x * 2 ^ by) % 4294967296) e ∙ mul-mod_first (u * 2 ^ s) (2 ^ by) 4294967296
+    ∙ ap (λ x. x % 4294967296) (product_of u (2 ^ s) (2 ^ by) ∙ ap (λ x. u * x) (sym (pow-add 2 s by) ∙ ap (λ x. 2 ^ x) (let g : s + by ≡ s + by * 1 = omega arith in g)))
+raise_stage false u n y s by e f = f ∙ e ∙ ap (λ x. (u * 2 ^ x) % 4294967296) (let g : s ≡ s + by * 0 = omega arith in g)
+
+not_raised : (u : ℕ) → u < 4294967296 → u ≡ (u * 2 ^ 0) % 4294967296
+not_raised u h = omega (arith, h)
+
+pub left_value : (v : Values) (a b low count w1 w2 w3 w4 w5 : List ℤ) (p q r s t never : ℤ) → 0 < length a → 0 < length b → low ≡ low_bits a → count ≡ low_bits b
+  → p ≡ get_or count 0 p → q ≡ get_or count 1 q → r ≡ get_or count 2 r → s ≡ get_or count 3 s → t ≡ get_or count 4 t
+  → length low ≡ 32 → length w1 ≡ 32 → length w2 ≡ 32 → length w3 ≡ 32 → length w4 ≡ 32 → length w5 ≡ 32 → lit_true v never ≡ false
+  → IsRaised low 1 p never w1 v → IsRaised w1 2 q never w2 v → IsRaised w2 4 r never w3 v → IsRaised w3 8 s never w4 v → IsRaised w4 16 t never w5 v
+  → word_value v w5 ≡ bits_left (word_value v a) (word_value v b)
+left_value v a b low count w1 w2 w3 w4 w5 p q r s t never ha hb el ec ep eq er es et l0 l1 l2 l3 l4 l5 en r1 r2 r3 r4 r5 =
+    let u = nat_of (bits v low) in
+    let n1 = raise_stage (lit_true v p) u u _ 0 1 (not_raised u (word_below v low l0)) (stage_nat v low w1 1 p never l0 l1 r1 en) in
+    let n2 = raise_stage (lit_true v q) u _ _ _ 2 n1 (stage_nat v w1 w2 2 q never l1 l2 r2 en) in
+    let n3 = raise_stage (lit_true v r) u _ _ _ 4 n2 (stage_nat v w2 w3 4 r never l2 l3 r3 en) in
+    let n4 = raise_stage (lit_true v s) u _ _ _ 8 n3 (stage_nat v w3 w4 8 s never l3 l4 r4 en) in
+    let n5 = raise_stage (lit_true v t) u _ _ _ 16 n4 (stage_nat v w4 w5 16 t never l4 l5 r5 en) in
+    let lc : length count ≡ 32 = ap length ec ∙ low_length b hb in
+    let k : shift_count_of v count ≡ shift_count (Some (word_value v b)) = ap (shift_count_of v) ec ∙ sym (count_is v b hb) in
+    let ua : u ≡ to_uint32 (Some (word_value v a)) = ap (λ l. nat_of (bits v l)) el ∙ sym (low_value v a ha) in
+    signed_word (bits v w5) (length-map w5 (lit_true v) ∙ l5)
+    ∙ ap signed (n5
+        ∙ ap (λ x. (u * 2 ^ x) % 4294967296) (five_bits (lit_true v p) (lit_true v q) (lit_true v r) (lit_true v s) (lit_true v t) ∙ take_five v count p q r s t (omega (arith, lc)) ep eq er es et ∙ k)
+        ∙ ap (λ x. (x * 2 ^ shift_count (Some (word_value v b))) % 4294967296) ua)

@@ -3,7 +3,7 @@ use Rattle.std.specs.Prelude.{ℕ, ℤ, pos, Bool, ◌*◌, ◌<◌, ◌≡◌, 
 use Rattle.cnf_core.specs.Literals.{Names, lit_true}
 use Rattle.cnf_core.specs.declared.clauses.Cnf.{Cnf}
 use Rattle.js_values.specs.Numbers.{equal, less, is_safe}
-use Rattle.js_values.specs.Integers.{quotient, rest, safe, bits_and, bits_or, bits_xor}
+use Rattle.js_values.specs.Integers.{quotient, rest, safe, bits_and, bits_or, bits_xor, bits_left, bits_right, bits_right_zero}
 use Rattle.bit_words.specs.Builds.{Values, Built}
 use Rattle.bit_words.specs.Words.{word_value}
 use Rattle.int_encoder.specs.declared.op.IntOp.{IntOp}
@@ -35,6 +35,9 @@ int_value op.Safe m n = whole (safe m)
 int_value op.BitAnd m n = whole (bits_and m n)
 int_value op.BitOr m n = whole (bits_or m n)
 int_value op.BitXor m n = whole (bits_xor m n)
+int_value op.Shl m n = whole (bits_left m n)
+int_value op.Shr m n = whole (bits_right m n)
+int_value op.Ushr m n = whole (bits_right_zero m n)
 
 -- the value at the first part and the last one, of one or two
 abbrev pub row_value : IntOp → List ℤ → Value
@@ -50,6 +53,9 @@ own_cost op.Rem w = 64 * (w * w)
 own_cost op.BitAnd w = 4096
 own_cost op.BitOr w = 4096
 own_cost op.BitXor w = 4096
+own_cost op.Shl w = 4096
+own_cost op.Shr w = 4096
+own_cost op.Ushr w = 4096
 own_cost _ w = 16 * w
 
 -- the bits of the widest part

@@ -15,7 +15,7 @@ use std::alloc::Global;
 const WIDTH: usize = 32;
 
 /// The lowest 32 bits.
-fn lowest(alloc: Global, a: &BitInt) -> Result<BitInt, NoMemory>
+pub fn lowest(alloc: Global, a: &BitInt) -> Result<BitInt, NoMemory>
     requires some { 0 < length a.now }
     ensures bits { IfOk result (λ word. word ≡ low_bits a.now) }
     ensures width { IfOk result (λ word. length word ≡ 32) }

@@ -7,6 +7,7 @@ ghost use Rattle.int_encoder.specs.Rows.{IsPart, IsRow, part_count, own_cost, wi
 use crate::bitwise::join_lowest;
 use crate::op::{IntBits, IntOp};
 use crate::safety::{fits, safe_or_zero};
+use crate::shifts::{shift_left, shift_right, shift_right_zero};
 use bit_words::{BitGate, BitInt, Builder};
 use js_units::NoMemory;
 
@@ -70,6 +71,18 @@ pub fn encode_int(builder: &mut Builder, op: IntOp, parts: &[BitInt]) -> Result<
         }
         IntOp::BitXor => {
             let word = join_lowest(builder, &BitGate::Xor, a, b)?;
+            return Ok(IntBits::Int(word));
+        }
+        IntOp::Shl => {
+            let word = shift_left(builder, a, b)?;
+            return Ok(IntBits::Int(word));
+        }
+        IntOp::Shr => {
+            let word = shift_right(builder, a, b)?;
+            return Ok(IntBits::Int(word));
+        }
+        IntOp::Ushr => {
+            let word = shift_right_zero(builder, a, b)?;
             return Ok(IntBits::Int(word));
         }
     }

@@ -25,6 +25,9 @@ pub enum IntOp {
     BitAnd,
     BitOr,
     BitXor,
+    Shl,
+    Shr,
+    Ushr,
 }
 
 /// What was made: a number or a truth value.

@@ -1,7 +1,7 @@
 use Rattle.std.proofs.Common.{ℕ, ℤ, List, Bool, ◌≡◌, ◌∙◌, ap, sym, rules, arith, length, max, ◌-◌, ◌+◌, ◌*◌, ◌≤◌, ◌<◌, [], ◌∷◌, refl, subst, All, ◌+ℤ◌, ◌-ℤ◌, ◌*ℤ◌, int_lt, int_le, get_or}
 use Rattle.std.specs.Ordering.{int_eq}
 use Rattle.js_values.specs.Numbers.{is_safe}
-use Rattle.js_values.specs.Integers.{quotient, rest, safe, bits_and, bits_or, bits_xor}
+use Rattle.js_values.specs.Integers.{quotient, rest, safe, bits_and, bits_or, bits_xor, bits_left, bits_right, bits_right_zero}
 use Rattle.int_encoder.specs.declared.op.IntOp.{IntOp}
 use Rattle.int_encoder.specs.declared.op.IntOp.TheVariants as op
 use Rattle.int_encoder.specs.Rows.{whole, truth, IsPart, part_count, own_cost, widest}
@@ -139,4 +139,31 @@ returns-in-BitXor-clause-row c =
     let sb : 0 < length b = (part_at _ (length parts - 1) parts b c.requires.parts (omega (arith, n)) c.index-parts-parts.is).some in
     let w = xor_word _ _ a b _ sa sb c.in_ok-word-in-BitXor.ensures.width c.in_ok-word-in-BitXor.ensures.bits in
     rw c.in-BitXor.is (word_row _ _ _ op.BitXor parts a b _ bits_xor e (λ p q. refl) w (omega arith))
+
+pub returns-in-Shl-clause-row : goal.returns-in-Shl-clause-row
+returns-in-Shl-clause-row c =
+    let parts = c.args.parts.now in
+    let a = c.index-parts-0.result in
+    let b = c.index-parts-parts.result in
+    let n : length parts ≡ 2 = c.requires.count ∙ ap part_count c.in-Shl.is in
+    let e : parts ≡ a ∷ b ∷ [] = two_of parts a b n c.index-parts-0.is c.index-parts-parts.is in
+    rw c.in-Shl.is (word_row _ _ _ op.Shl parts a b _ bits_left e (λ p q. refl) c.in_ok-word-in-Shl.ensures.word (omega arith))
+
+pub returns-in-Shr-clause-row : goal.returns-in-Shr-clause-row
+returns-in-Shr-clause-row c =
+    let parts = c.args.parts.now in
+    let a = c.index-parts-0.result in
+    let b = c.index-parts-parts.result in
+    let n : length parts ≡ 2 = c.requires.count ∙ ap part_count c.in-Shr.is in
+    let e : parts ≡ a ∷ b ∷ [] = two_of parts a b n c.index-parts-0.is c.index-parts-parts.is in
+    rw c.in-Shr.is (word_row _ _ _ op.Shr parts a b _ bits_right e (λ p q. refl) c.in_ok-word-in-Shr.ensures.word (omega arith))
+
+pub returns-in-Ushr-clause-row : goal.returns-in-Ushr-clause-row
+returns-in-Ushr-clause-row c =
+    let parts = c.args.parts.now in
+    let a = c.index-parts-0.result in
+    let b = c.index-parts-parts.result in
+    let n : length parts ≡ 2 = c.requires.count ∙ ap part_count c.in-Ushr.is in
+    let e : parts ≡ a ∷ b ∷ [] = two_of parts a b n c.index-parts-0.is c.index-parts-parts.is in
+    rw c.in-Ushr.is (word_row _ _ _ op.Ushr parts a b _ bits_right_zero e (λ p q. refl) c.in_ok-word-in-Ushr.ensures.word (omega arith))
 
