@@ -15,7 +15,7 @@ use Rattle.bit_words.proofs.Opposites.{opposite_value}
 
 -- one full adder and the rest
 sum_step : (x y c : Bool) (p q r : ℤ) → r ≡ (p +ℤ q) +ℤ bit_int (if differ x y then c else x)
-  → bit_int (differ (differ x y) c) +ℤ (r +ℤ r) ≡ ((bit_int x +ℤ (p +ℤ p)) +ℤ (bit_int y +ℤ (q +ℤ q))) +ℤ bit_int c
+    → bit_int (differ (differ x y) c) +ℤ (r +ℤ r) ≡ ((bit_int x +ℤ (p +ℤ p)) +ℤ (bit_int y +ℤ (q +ℤ q))) +ℤ bit_int c
 sum_step true true true p q r e = omega (arith, ints)
 sum_step true true false p q r e = omega (arith, ints)
 sum_step true false true p q r e = omega (arith, ints)
@@ -41,7 +41,7 @@ length-sum_bits c (x ∷ xs) [] e = absurd (omega arith)
 length-sum_bits c (x ∷ xs) (y ∷ ys) e = omega (arith, length-sum_bits (if differ x y then c else x) xs ys (omega arith))
 
 int_of-sum : (c : Bool) (xs ys : List Bool) → 0 < length xs → length xs ≡ length ys
-  → int_of (sum_bits c (padded 1 xs) (padded 1 ys)) ≡ (int_of xs +ℤ int_of ys) +ℤ bit_int c
+    → int_of (sum_bits c (padded 1 xs) (padded 1 ys)) ≡ (int_of xs +ℤ int_of ys) +ℤ bit_int c
 int_of-sum c [] ys h e = absurd (omega arith)
 int_of-sum c (x ∷ xs) [] h e = absurd (omega arith)
 int_of-sum c (x ∷ []) (y ∷ []) h e = sum_last x y c
@@ -75,9 +75,9 @@ summing_none s a b out carry e h =
     subst P (sym e) (built_none s (carry ∷ []) (Summing a b carry a b carry []) (named_one s.variables carry h) (λ v. refl))
 
 summing_next : (v : Values) (a b : List ℤ) (carry x y : ℤ) (left other out : List ℤ) (next sum after : ℤ) → Summing a b carry (x ∷ left) (y ∷ other) next out v
-  → lit_true v sum ≡ differ (differ (lit_true v x) (lit_true v y)) (lit_true v next)
-  → lit_true v after ≡ (if differ (lit_true v x) (lit_true v y) then lit_true v next else lit_true v x)
-  → Summing a b carry left other after (out ++ sum ∷ []) v
+    → lit_true v sum ≡ differ (differ (lit_true v x) (lit_true v y)) (lit_true v next)
+    → lit_true v after ≡ (if differ (lit_true v x) (lit_true v y) then lit_true v next else lit_true v x)
+    → Summing a b carry left other after (out ++ sum ∷ []) v
 summing_next v a b carry x y left other out next sum after i g h =
     ap (λ l. l ++ sum_bits (lit_true v after) (bits v left) (bits v other)) (map-append (lit_true v) out (sum ∷ []))
     ∙ append_assoc (bits v out) (lit_true v sum ∷ []) (sum_bits (lit_true v after) (bits v left) (bits v other))
@@ -86,41 +86,41 @@ summing_next v a b carry x y left other out next sum after i g h =
     ∙ i
 
 pub summing_step : (s0 s1 s2 : Cnf) (i m : ℕ) (a b : List ℤ) (carry x y : ℤ) (left other out : List ℤ) (next sum after : ℤ)
-  → Built s0 s1 i (next ∷ out) (Summing a b carry (x ∷ left) (y ∷ other) next out)
-  → Built s1 s2 3 (sum ∷ after ∷ []) (λ v. (lit_true v sum ≡ differ (differ (lit_true v x) (lit_true v y)) (lit_true v next))
-      × (lit_true v after ≡ (if differ (lit_true v x) (lit_true v y) then lit_true v next else lit_true v x)))
-  → i + 3 ≤ m
-  → Built s0 s2 m (after ∷ (out ++ sum ∷ [])) (Summing a b carry left other after (out ++ sum ∷ []))
+    → Built s0 s1 i (next ∷ out) (Summing a b carry (x ∷ left) (y ∷ other) next out)
+    → Built s1 s2 3 (sum ∷ after ∷ []) (λ v. (lit_true v sum ≡ differ (differ (lit_true v x) (lit_true v y)) (lit_true v next))
+    × (lit_true v after ≡ (if differ (lit_true v x) (lit_true v y) then lit_true v next else lit_true v x)))
+    → i + 3 ≤ m
+    → Built s0 s2 m (after ∷ (out ++ sum ∷ [])) (Summing a b carry left other after (out ++ sum ∷ []))
 summing_step s0 s1 s2 i m a b carry x y left other out next sum after g h le =
     built_both g h le
-      (named_more s2.variables after (out ++ sum ∷ []) (h.names 1 sum (omega arith))
-        (All-append (Names s2.variables) out (sum ∷ []) (all_later s1.variables s2.variables out (λ k d w. g.names (suc k) d (omega (arith, w))) h.variables)
-          (named_one s2.variables sum (h.names 0 sum (omega arith)))))
-      (λ v p q. summing_next v a b carry x y left other out next sum after p q.0 q.1)
+    (named_more s2.variables after (out ++ sum ∷ []) (h.names 1 sum (omega arith))
+    (All-append (Names s2.variables) out (sum ∷ []) (all_later s1.variables s2.variables out (λ k d w. g.names (suc k) d (omega (arith, w))) h.variables)
+    (named_one s2.variables sum (h.names 0 sum (omega arith)))))
+    (λ v p q. summing_next v a b carry x y left other out next sum after p q.0 q.1)
 
 pub summing_all : (s0 s1 : Cnf) (i : ℕ) (a b left other out : List ℤ) (carry next : ℤ) → Built s0 s1 i (next ∷ out) (Summing a b carry left other next out)
-  → left ≡ [] → length out ≡ length a → i ≤ 3 * length a → IsSum s0 s1 a b carry out
+    → left ≡ [] → length out ≡ length a → i ≤ 3 * length a → IsSum s0 s1 a b carry out
 summing_all s0 s1 i a b left other out carry next g e l le = record {
   width = l;
   built = built_as g le (λ k d w. g.names (suc k) d (omega (arith, w)))
-    (λ v p. sym (append-nil (bits v out)) ∙ sym (ap (λ z. bits v out ++ sum_bits (lit_true v next) (bits v z) (bits v other)) e) ∙ p);
+      (λ v p. sym (append-nil (bits v out)) ∙ sym (ap (λ z. bits v out ++ sum_bits (lit_true v next) (bits v z) (bits v other)) e) ∙ p);
 }
 
 summed : (v : Values) (a b : List ℤ) (carry : ℤ) (j k : ℕ) → 0 < length a → 0 < length b → length a + j ≡ length b + k
-  → int_of (sum_bits (lit_true v carry) (bits v (padded (j + 1) a)) (bits v (padded (k + 1) b))) ≡ (word_value v a +ℤ word_value v b) +ℤ bit_int (lit_true v carry)
+    → int_of (sum_bits (lit_true v carry) (bits v (padded (j + 1) a)) (bits v (padded (k + 1) b))) ≡ (word_value v a +ℤ word_value v b) +ℤ bit_int (lit_true v carry)
 summed v a b carry j k la lb e =
     let p : length (padded j (bits v a)) ≡ length (bits v a) + j = length-padded j (bits v a) (omega (arith, length-map a (lit_true v))) in
     let q : length (padded k (bits v b)) ≡ length (bits v b) + k = length-padded k (bits v b) (omega (arith, length-map b (lit_true v))) in
     ap (λ l. int_of (sum_bits (lit_true v carry) l (bits v (padded (k + 1) b)))) (bits-padded v (j + 1) a ∙ padded_more j (bits v a))
     ∙ ap (λ l. int_of (sum_bits (lit_true v carry) (padded 1 (padded j (bits v a))) l)) (bits-padded v (k + 1) b ∙ padded_more k (bits v b))
     ∙ int_of-sum (lit_true v carry) (padded j (bits v a)) (padded k (bits v b)) (omega (arith, p, length-map a (lit_true v)))
-        (omega (arith, p, q, length-map a (lit_true v), length-map b (lit_true v)))
+    (omega (arith, p, q, length-map a (lit_true v), length-map b (lit_true v)))
     ∙ ap (λ z. (z +ℤ int_of (padded k (bits v b))) +ℤ bit_int (lit_true v carry)) (int_of-padded j (bits v a))
     ∙ ap (λ z. (word_value v a +ℤ z) +ℤ bit_int (lit_true v carry)) (int_of-padded k (bits v b))
 
 pub sum_word : (s0 s1 : Cnf) (a b a' b' out : List ℤ) (carry : ℤ) (w : ℕ) → w ≡ max (length a) (length b) → a' ≡ padded (w + 1 - length a) a → b' ≡ padded (w + 1 - length b) b
-  → IsSum s0 s1 a' b' carry out → 0 < length a → 0 < length b
-  → IsWord s0 s1 (3 * w + 3) out (λ v. (word_value v a +ℤ word_value v b) +ℤ bit_int (lit_true v carry))
+    → IsSum s0 s1 a' b' carry out → 0 < length a → 0 < length b
+    → IsWord s0 s1 (3 * w + 3) out (λ v. (word_value v a +ℤ word_value v b) +ℤ bit_int (lit_true v carry))
 sum_word s0 s1 a b a' b' out carry w ew ea eb s la lb =
     let j : ℕ = w - length a in
     let k : ℕ = w - length b in
@@ -130,7 +130,7 @@ sum_word s0 s1 a b a' b' out carry w ew ea eb s la lb =
     record {
       some = omega (arith, l, s.width);
       built = built_as s.built (omega (arith, l, ew)) s.built.names
-        (λ v p. ap int_of (p ∙ ap (λ z. sum_bits (lit_true v carry) (bits v z) (bits v b')) ea' ∙ ap (λ z. sum_bits (lit_true v carry) (bits v (padded (j + 1) a)) (bits v z)) eb')
+          (λ v p. ap int_of (p ∙ ap (λ z. sum_bits (lit_true v carry) (bits v z) (bits v b')) ea' ∙ ap (λ z. sum_bits (lit_true v carry) (bits v (padded (j + 1) a)) (bits v z)) eb')
           ∙ summed v a b carry j k la lb (omega (arith, ew)));
     }
 
@@ -142,14 +142,14 @@ less_none z b e = rw e (let f : z -ℤ pos 0 ≡ z = omega (arith, ints) in f)
 
 -- from a carry that never holds
 pub never_carried : (s0 s1 s2 : Cnf) (m m' : ℕ) (never : ℤ) (word : List ℤ) (f : Values → ℤ) → IsGate s0 s1 1 never (λ v. false)
-  → IsWord s1 s2 m word (λ v. f v +ℤ bit_int (lit_true v never)) → 1 + m ≤ m' → IsWord s0 s2 m' word f
+    → IsWord s1 s2 m word (λ v. f v +ℤ bit_int (lit_true v never)) → 1 + m ≤ m' → IsWord s0 s2 m' word f
 never_carried s0 s1 s2 m m' never word f g h le = record {
   some = h.some;
   built = built_both g h.built le h.built.names (λ v p q. q ∙ plus_none (f v) (lit_true v never) p);
 }
 
 pub never_borrowed : (s0 s1 s2 : Cnf) (m m' : ℕ) (never : ℤ) (word : List ℤ) (f : Values → ℤ) → IsGate s0 s1 1 never (λ v. false)
-  → IsWord s1 s2 m word (λ v. f v -ℤ bit_int (lit_true v never)) → 1 + m ≤ m' → IsWord s0 s2 m' word f
+    → IsWord s1 s2 m word (λ v. f v -ℤ bit_int (lit_true v never)) → 1 + m ≤ m' → IsWord s0 s2 m' word f
 never_borrowed s0 s1 s2 m m' never word f g h le = record {
   some = h.some;
   built = built_both g h.built le h.built.names (λ v p q. q ∙ less_none (f v) (lit_true v never) p);
@@ -161,14 +161,14 @@ take_away x y false = omega (arith, ints)
 
 -- a sum with the opposite bits
 pub difference_word : (s0 s1 : Cnf) (m m' : ℕ) (a b b' word : List ℤ) (borrow carry : ℤ) → All (Names s0.variables) b → 0 < length b → Names s0.variables borrow
-  → b' ≡ map neg_ℤ b → carry ≡ neg_ℤ borrow → m ≤ m'
-  → IsWord s0 s1 m word (λ v. (word_value v a +ℤ word_value v b') +ℤ bit_int (lit_true v carry))
-  → IsWord s0 s1 m' word (λ v. (word_value v a -ℤ word_value v b) -ℤ bit_int (lit_true v borrow))
+    → b' ≡ map neg_ℤ b → carry ≡ neg_ℤ borrow → m ≤ m'
+    → IsWord s0 s1 m word (λ v. (word_value v a +ℤ word_value v b') +ℤ bit_int (lit_true v carry))
+    → IsWord s0 s1 m' word (λ v. (word_value v a -ℤ word_value v b) -ℤ bit_int (lit_true v borrow))
 difference_word s0 s1 m m' a b b' word borrow carry hb lb hr eb ec le h = record {
   some = h.some;
   built = built_as h.built le h.built.names (λ v p.
       p ∙ ap (λ z. (word_value v a +ℤ z) +ℤ bit_int (lit_true v carry))
-            (ap (word_value v) eb ∙ ap int_of (bits-opposites v s0.variables b hb) ∙ int_of-not (bits v b) (omega (arith, lb, length-map b (lit_true v))))
-        ∙ ap (λ z. (word_value v a +ℤ (negsuc 0 -ℤ word_value v b)) +ℤ bit_int z) (ap (lit_true v) ec ∙ opposite_value s0.variables borrow v hr)
-        ∙ take_away (word_value v a) (word_value v b) (lit_true v borrow));
+      (ap (word_value v) eb ∙ ap int_of (bits-opposites v s0.variables b hb) ∙ int_of-not (bits v b) (omega (arith, lb, length-map b (lit_true v))))
+      ∙ ap (λ z. (word_value v a +ℤ (negsuc 0 -ℤ word_value v b)) +ℤ bit_int z) (ap (lit_true v) ec ∙ opposite_value s0.variables borrow v hr)
+      ∙ take_away (word_value v a) (word_value v b) (lit_true v borrow));
 }

@@ -14,7 +14,8 @@ one_true v lit h (suc k) d w = absurd (omega (arith, w))
 
 pub asserted : (v : Values) (old new : List (List ℤ)) (lit : ℤ) → new ≡ old ++ (lit ∷ []) ∷ [] → Solves v new ↔ (Solves v old × (lit_true v lit ≡ true))
 asserted v old new lit e =
-    let P : List (List ℤ) → Type 0 = λ cs. Solves v cs in
-    ( (λ s. let t = subst P e s in
-        (solves_first v old ((lit ∷ []) ∷ []) t, sym (or_none (lit_true v lit)) ∙ solves_second v old ((lit ∷ []) ∷ []) t 0 (lit ∷ []) (omega arith)))
-    , (λ h. subst P (sym e) (solves_both v old ((lit ∷ []) ∷ []) h.0 (one_true v lit h.1))) )
+    let P : List (List ℤ) → Type 0 = λ cs. Solves v cs in (
+      (λ s. let t = subst P e s in
+          (solves_first v old ((lit ∷ []) ∷ []) t, sym (or_none (lit_true v lit)) ∙ solves_second v old ((lit ∷ []) ∷ []) t 0 (lit ∷ []) (omega arith))),
+      (λ h. subst P (sym e) (solves_both v old ((lit ∷ []) ∷ []) h.0 (one_true v lit h.1))),
+    )

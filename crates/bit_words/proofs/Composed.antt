@@ -73,7 +73,7 @@ built_none a lits F names fact = record {
 
 -- the same with other literals and another fact
 pub built_as : {a b : Cnf} {j m : ℕ} {xs ys : List ℤ} {F H : Values → Type 0} → Built a b j xs F → j ≤ m → All (Names b.variables) ys
-  → ((v : Values) → F v → H v) → Built a b m ys H
+    → ((v : Values) → F v → H v) → Built a b m ys H
 built_as g le names fact = record {
   added = g.added;
   clauses = g.clauses;
@@ -106,8 +106,8 @@ module _ (a b c : Cnf) (j k : ℕ) (xs ys : List ℤ) (F G : Values → Type 0) 
     few = omega (arith, g.few, h.few, le);
     own = λ v w e s.
         solves_both w g.added h.added
-          (g.own v w (λ k lo hi. e k lo (omega (arith, hi, h.variables))) (solves_first v g.added h.added s))
-          (h.own v w e (solves_second v g.added h.added s));
+        (g.own v w (λ k lo hi. e k lo (omega (arith, hi, h.variables))) (solves_first v g.added h.added s))
+        (h.own v w e (solves_second v g.added h.added s));
     one = one_both;
     names = names;
     fact = λ v s. fact v (g.fact v (solves_first v g.added h.added s)) (h.fact v (solves_second v g.added h.added s));
@@ -115,10 +115,10 @@ module _ (a b c : Cnf) (j k : ℕ) (xs ys : List ℤ) (F G : Values → Type 0) 
 
 -- two calls
 pub built_both : {a b c : Cnf} {j k m : ℕ} {xs ys zs : List ℤ} {F G H : Values → Type 0} → Built a b j xs F → Built b c k ys G → j + k ≤ m
-  → All (Names c.variables) zs → ((v : Values) → F v → G v → H v) → Built a c m zs H
+    → All (Names c.variables) zs → ((v : Values) → F v → G v → H v) → Built a c m zs H
 built_both {a} {b} {c} {j} {k} {m} {xs} {ys} {zs} {F} {G} {H} g h le names fact = both_of a b c j k xs ys F G g h m zs H le names fact
 
 -- two calls, both facts kept, with the literals of the second
 pub built_then : {a b c : Cnf} {j k : ℕ} {xs ys : List ℤ} {F G : Values → Type 0} → Built a b j xs F → Built b c k ys G
-  → Built a c (j + k) ys (λ v. F v × G v)
+    → Built a c (j + k) ys (λ v. F v × G v)
 built_then g h = built_both g h (omega arith) h.names (λ v p q. (p, q))

@@ -38,7 +38,7 @@ sign_word v [] x h e = absurd (omega (arith, h))
 sign_word v (y ∷ []) x h e = let P : ℤ → Type 0 = λ u. SignOf (lit_true v u) (word_value v (y ∷ [])) in subst P (sym e) (sign_last (lit_true v y))
 sign_word v (y ∷ z ∷ zs) x h e =
     sign_step (lit_true v x) (lit_true v y) (word_value v (z ∷ zs))
-      (sign_word v (z ∷ zs) x (omega arith) (e ∙ ap (λ n. get_or (y ∷ z ∷ zs) n x) (let f : suc (suc (length zs)) - 1 ≡ suc (length (z ∷ zs) - 1) = omega arith in f)))
+    (sign_word v (z ∷ zs) x (omega arith) (e ∙ ap (λ n. get_or (y ∷ z ∷ zs) n x) (let f : suc (suc (length zs)) - 1 ≡ suc (length (z ∷ zs) - 1) = omega arith in f)))
 
 low_step : (x : Bool) (z : ℤ) → pos 0 ≤ℤ (bit_int x +ℤ (z +ℤ z)) → pos 0 ≤ℤ z
 low_step true z h = omega (arith, ints, h)
@@ -68,7 +68,7 @@ magnitude false (pos n) h = refl
 magnitude false (negsuc n) h = absurd (omega (arith, ints, h))
 
 signed_quotient : (x y : Bool) (a b : ℤ) → SignOf x a → SignOf y b
-  → (if differ x y then pos 0 -ℤ pos (unsigned_abs a / unsigned_abs b) else pos (unsigned_abs a / unsigned_abs b)) ≡ int_div a b
+    → (if differ x y then pos 0 -ℤ pos (unsigned_abs a / unsigned_abs b) else pos (unsigned_abs a / unsigned_abs b)) ≡ int_div a b
 signed_quotient true y (pos m) b h k = absurd (omega (arith, ints, h))
 signed_quotient false y (negsuc m) b h k = absurd (omega (arith, ints, h))
 signed_quotient x true a (pos n) h k = absurd (omega (arith, ints, k))
@@ -79,7 +79,7 @@ signed_quotient true false (negsuc m) (pos n) h k = zero_minus (pos (suc m / n))
 signed_quotient true true (negsuc m) (negsuc n) h k = refl
 
 signed_rest : (x : Bool) (a b : ℤ) → SignOf x a
-  → (if x then pos 0 -ℤ pos (unsigned_abs a % unsigned_abs b) else pos (unsigned_abs a % unsigned_abs b)) ≡ int_rem a b
+    → (if x then pos 0 -ℤ pos (unsigned_abs a % unsigned_abs b) else pos (unsigned_abs a % unsigned_abs b)) ≡ int_rem a b
 signed_rest true (pos m) b h = absurd (omega (arith, ints, h))
 signed_rest false (negsuc m) b h = absurd (omega (arith, ints, h))
 signed_rest false (pos m) b h = refl
@@ -111,7 +111,7 @@ next_small true r d h = omega (arith, ints, h)
 next_small false r d h = omega (arith, ints, h)
 
 quotient_step : (t b : Bool) (top d q r next left : ℤ) → IsQuotient top d q r → next ≡ bit_int t +ℤ (r +ℤ r) → IsStepOf next d b left
-  → IsQuotient (bit_int t +ℤ (top +ℤ top)) d (bit_int b +ℤ (q +ℤ q)) left
+    → IsQuotient (bit_int t +ℤ (top +ℤ top)) d (bit_int b +ℤ (q +ℤ q)) left
 quotient_step t b top d q r next left h e s = record {
   is = omega (arith, ints, h.is, e, s.is, mul_step b q d);
   positive = next_least b q h.positive;
@@ -120,7 +120,7 @@ quotient_step t b top d q r next left h e s = record {
 }
 
 pub quotient_next : (t b : Bool) (top d q r next left : ℤ) → IsQuotient top d q r → next ≡ bit_int t +ℤ (r +ℤ r) → IsStep next d b left
-  → IsQuotient (bit_int t +ℤ (top +ℤ top)) d (bit_int b +ℤ (q +ℤ q)) left
+    → IsQuotient (bit_int t +ℤ (top +ℤ top)) d (bit_int b +ℤ (q +ℤ q)) left
 quotient_next t b top d q r next left h e s =
     quotient_step t b top d q r next left h e (s (rw e (next_least t r h.least)) (rw e (next_small t r d h.small)))
 
@@ -161,12 +161,12 @@ zero_or_more (pos (suc n)) p q h = rw (not_equal n, not_zero n) (h (omega arith)
 zero_or_more (negsuc n) p q h = h (omega arith)
 
 pub quotient_value : (x y : Bool) (a b s q w : ℤ) → SignOf x a → SignOf y b → (0 < unsigned_abs b → q ≡ pos (unsigned_abs a / unsigned_abs b))
-  → s ≡ (if differ x y then pos 0 -ℤ q else q) → w ≡ (if int_eq b (pos 0) then pos 0 else s) → w ≡ quotient a b
+    → s ≡ (if differ x y then pos 0 -ℤ q else q) → w ≡ (if int_eq b (pos 0) then pos 0 else s) → w ≡ quotient a b
 quotient_value x y a b s q w h k d e f =
     f ∙ zero_or_more b s (int_div a b) (λ p. e ∙ ap (λ z. if differ x y then pos 0 -ℤ z else z) (d p) ∙ signed_quotient x y a b h k)
 
 pub rest_value : (x : Bool) (a b s r w : ℤ) → SignOf x a → (0 < unsigned_abs b → r ≡ pos (unsigned_abs a % unsigned_abs b))
-  → s ≡ (if x then pos 0 -ℤ r else r) → w ≡ (if int_eq b (pos 0) then pos 0 else s) → w ≡ rest a b
+    → s ≡ (if x then pos 0 -ℤ r else r) → w ≡ (if int_eq b (pos 0) then pos 0 else s) → w ≡ rest a b
 rest_value x a b s r w h d e f =
     f ∙ zero_or_more b s (int_rem a b) (λ p. e ∙ ap (λ z. if x then pos 0 -ℤ z else z) (d p) ∙ signed_rest x a b h)
 
@@ -180,55 +180,55 @@ quotient_word v xs never h = ap int_of (map-append (lit_true v) xs (never ∷ []
     ∙ ap (λ b. above (bits v xs) (neg_ℤ (bit_int b))) h
 
 pub negated_word : (v : Values) (c never : ℤ) (k : ℕ) (none negative a word : List ℤ) → none ≡ padded k (never ∷ []) → lit_true v never ≡ false
-  → word_value v negative ≡ (word_value v none -ℤ word_value v a) -ℤ bit_int (lit_true v never)
-  → word_value v word ≡ (if lit_true v c then word_value v negative else word_value v a)
-  → word_value v word ≡ (if lit_true v c then pos 0 -ℤ word_value v a else word_value v a)
+    → word_value v negative ≡ (word_value v none -ℤ word_value v a) -ℤ bit_int (lit_true v never)
+    → word_value v word ≡ (if lit_true v c then word_value v negative else word_value v a)
+    → word_value v word ≡ (if lit_true v c then pos 0 -ℤ word_value v a else word_value v a)
 negated_word v c never k none negative a word ez n p q =
     q ∙ ap (λ z. if lit_true v c then z else word_value v a)
-        (p ∙ ap (λ z. (z -ℤ word_value v a) -ℤ bit_int (lit_true v never)) (none_word v k none never ez n)
-           ∙ ap (λ b. (pos 0 -ℤ word_value v a) -ℤ bit_int b) n ∙ no_borrow (pos 0 -ℤ word_value v a))
+    (p ∙ ap (λ z. (z -ℤ word_value v a) -ℤ bit_int (lit_true v never)) (none_word v k none never ez n)
+    ∙ ap (λ b. (pos 0 -ℤ word_value v a) -ℤ bit_int b) n ∙ no_borrow (pos 0 -ℤ word_value v a))
 
 pub unless_word : (v : Values) (z never : ℤ) (k : ℕ) (none d a word : List ℤ) → none ≡ padded k (never ∷ []) → lit_true v never ≡ false
-  → lit_true v z ≡ int_eq (word_value v d) (word_value v none) → word_value v word ≡ (if lit_true v z then word_value v none else word_value v a)
-  → word_value v word ≡ (if int_eq (word_value v d) (pos 0) then pos 0 else word_value v a)
+    → lit_true v z ≡ int_eq (word_value v d) (word_value v none) → word_value v word ≡ (if lit_true v z then word_value v none else word_value v a)
+    → word_value v word ≡ (if int_eq (word_value v d) (pos 0) then pos 0 else word_value v a)
 unless_word v z never k none d a word ez n p q =
     let e : word_value v none ≡ pos 0 = none_word v k none never ez n in
     q ∙ ap (λ x. if lit_true v z then x else word_value v a) e ∙ ap (λ b. if b then pos 0 else word_value v a) (p ∙ ap (int_eq (word_value v d)) e)
 
 pub step_word : (v : Values) (next d diff kept left : List ℤ) (less bit never : ℤ) (w n : ℕ) → Names n less → 0 < length diff
-  → less ≡ get_or diff (length diff - 1) less → bit ≡ neg_ℤ less → lit_true v never ≡ false
-  → word_value v diff ≡ (word_value v next -ℤ word_value v d) -ℤ bit_int (lit_true v never)
-  → word_value v kept ≡ (if lit_true v less then word_value v next else word_value v diff)
-  → FitsIn w (word_value v d) → (FitsIn w (word_value v kept) → word_value v left ≡ word_value v kept)
-  → IsStep (word_value v next) (word_value v d) (lit_true v bit) (word_value v left)
+    → less ≡ get_or diff (length diff - 1) less → bit ≡ neg_ℤ less → lit_true v never ≡ false
+    → word_value v diff ≡ (word_value v next -ℤ word_value v d) -ℤ bit_int (lit_true v never)
+    → word_value v kept ≡ (if lit_true v less then word_value v next else word_value v diff)
+    → FitsIn w (word_value v d) → (FitsIn w (word_value v kept) → word_value v left ≡ word_value v kept)
+    → IsStep (word_value v next) (word_value v d) (lit_true v bit) (word_value v left)
 step_word v next d diff kept left less bit never w n names some es eb en p q fits same least small =
     let f : word_value v diff ≡ word_value v next -ℤ word_value v d =
-        p ∙ ap (λ b. (word_value v next -ℤ word_value v d) -ℤ bit_int b) en ∙ no_borrow (word_value v next -ℤ word_value v d) in
+    p ∙ ap (λ b. (word_value v next -ℤ word_value v d) -ℤ bit_int b) en ∙ no_borrow (word_value v next -ℤ word_value v d) in
     let s = step_is (lit_true v less) (word_value v next) (word_value v d) (word_value v diff) (word_value v kept) f (sign_word v diff less some es) q least small in
     let b : lit_true v bit ≡ not (lit_true v less) = ap (lit_true v) eb ∙ opposite_value n less v names in
     let k : word_value v left ≡ word_value v kept = same (step_fits w (word_value v next) (word_value v d) (word_value v kept) (not (lit_true v less)) fits s) in
     rw (b, k) s
 
 pub divide_next : (s0 s1 s2 : Cnf) (i m n : ℕ) (done d bs left next after : List ℤ) (x b never : ℤ)
-  → Built s0 s1 i [] (λ v. lit_true v never ≡ false → pos 0 <ℤ word_value v d → IsQuotient (above (bits v done) (pos 0)) (word_value v d) (above (bits v bs) (pos 0)) (word_value v left))
-  → Built s1 s2 n (b ∷ after) (λ v. lit_true v never ≡ false → IsStep (word_value v next) (word_value v d) (lit_true v b) (word_value v after))
-  → next ≡ x ∷ left → 0 < length left → i + n ≤ m
-  → Built s0 s2 m [] (λ v. lit_true v never ≡ false → pos 0 <ℤ word_value v d → IsQuotient (above (bits v (x ∷ done)) (pos 0)) (word_value v d) (above (bits v (b ∷ bs)) (pos 0)) (word_value v after))
+    → Built s0 s1 i [] (λ v. lit_true v never ≡ false → pos 0 <ℤ word_value v d → IsQuotient (above (bits v done) (pos 0)) (word_value v d) (above (bits v bs) (pos 0)) (word_value v left))
+    → Built s1 s2 n (b ∷ after) (λ v. lit_true v never ≡ false → IsStep (word_value v next) (word_value v d) (lit_true v b) (word_value v after))
+    → next ≡ x ∷ left → 0 < length left → i + n ≤ m
+    → Built s0 s2 m [] (λ v. lit_true v never ≡ false → pos 0 <ℤ word_value v d → IsQuotient (above (bits v (x ∷ done)) (pos 0)) (word_value v d) (above (bits v (b ∷ bs)) (pos 0)) (word_value v after))
 divide_next s0 s1 s2 i m n done d bs left next after x b never g h e some le =
     built_both g h le (named_none s2.variables)
-      (λ v p q en pd. quotient_next (lit_true v x) (lit_true v b) (above (bits v done) (pos 0)) (word_value v d) (above (bits v bs) (pos 0)) (word_value v left) (word_value v next) (word_value v after)
-        (p en pd) (ap (word_value v) e ∙ int_of-more (lit_true v x) (bits v left) (omega (arith, some, length-map left (lit_true v)))) (q en))
+    (λ v p q en pd. quotient_next (lit_true v x) (lit_true v b) (above (bits v done) (pos 0)) (word_value v d) (above (bits v bs) (pos 0)) (word_value v left) (word_value v next) (word_value v after)
+    (p en pd) (ap (word_value v) e ∙ int_of-more (lit_true v x) (bits v left) (omega (arith, some, length-map left (lit_true v)))) (q en))
 
 pub divide_all : (s0 s1 : Cnf) (i : ℕ) (low done d bs left word : List ℤ) (never : ℤ)
-  → Built s0 s1 i [] (λ v. lit_true v never ≡ false → pos 0 <ℤ word_value v d → IsQuotient (above (bits v done) (pos 0)) (word_value v d) (above (bits v bs) (pos 0)) (word_value v left))
-  → done ≡ low → word ≡ bs ++ never ∷ [] → i ≤ length low * (4 * length d + 8) → length bs ≡ length low → length left ≡ length d
-  → All (Names s1.variables) bs → All (Names s1.variables) left → Names s1.variables never
-  → AreDivided s0 s1 low d never word left
+    → Built s0 s1 i [] (λ v. lit_true v never ≡ false → pos 0 <ℤ word_value v d → IsQuotient (above (bits v done) (pos 0)) (word_value v d) (above (bits v bs) (pos 0)) (word_value v left))
+    → done ≡ low → word ≡ bs ++ never ∷ [] → i ≤ length low * (4 * length d + 8) → length bs ≡ length low → length left ≡ length d
+    → All (Names s1.variables) bs → All (Names s1.variables) left → Names s1.variables never
+    → AreDivided s0 s1 low d never word left
 divide_all s0 s1 i low done d bs left word never g e ew le lb ll nb nl nn = record {
   quotient_width = ap length ew ∙ (omega (arith, length-append bs (never ∷ []), lb));
   left_width = ll;
   quotient_names = (let P : List ℤ → Type 0 = λ l. All (Names s1.variables) l in
-    subst P (sym ew) (All-append (Names s1.variables) bs (never ∷ []) nb (named_one s1.variables never nn)));
+      subst P (sym ew) (All-append (Names s1.variables) bs (never ∷ []) nb (named_one s1.variables never nn)));
   left_names = nl;
   built = built_as g le (named_none s1.variables) (λ v p en pd.
       let eq : word_value v word ≡ above (bits v bs) (pos 0) = ap (word_value v) ew ∙ quotient_word v bs never en in
@@ -237,13 +237,13 @@ divide_all s0 s1 i low done d bs left word never g e ew le lb ll nb nl nn = reco
 }
 
 pub long_all : (s0 s1 : Cnf) (m n : ℕ) (top low d word left : List ℤ) (never : ℤ) → AreDivided s0 s1 low d never word left
-  → low ≡ take n top → length top ≡ suc n → m ≡ length low * (4 * length d + 8)
-  → Built s0 s1 m [] (λ v. lit_true v never ≡ false → pos 0 ≤ℤ word_value v top → pos 0 <ℤ word_value v d → IsQuotient (word_value v top) (word_value v d) (word_value v word) (word_value v left))
+    → low ≡ take n top → length top ≡ suc n → m ≡ length low * (4 * length d + 8)
+    → Built s0 s1 m [] (λ v. lit_true v never ≡ false → pos 0 ≤ℤ word_value v top → pos 0 <ℤ word_value v d → IsQuotient (word_value v top) (word_value v d) (word_value v word) (word_value v left))
 long_all s0 s1 m n top low d word left never g f l le =
     built_as g.built (omega (arith, le)) (named_none s1.variables) (λ v p en pt pd.
-      let et : above (bits v low) (pos 0) ≡ word_value v top = ap (λ w. above (bits v w) (pos 0)) f ∙ low_word v n top l pt in
-      let h = p en pd in
-      rw (sym et) h)
+    let et : above (bits v low) (pos 0) ≡ word_value v top = ap (λ w. above (bits v w) (pos 0)) f ∙ low_word v n top l pt in
+    let h = p en pd in
+    rw (sym et) h)
 
 above_zero : (n : ℕ) → 0 < n → pos 0 <ℤ pos n
 above_zero n h = omega (arith, ints, h)
@@ -252,22 +252,22 @@ least_zero : (n : ℕ) → pos 0 ≤ℤ pos n
 least_zero n = omega (arith, ints)
 
 pub magnitudes : (v : Values) (a b top d q r : List ℤ) (sa sb : ℤ) → 0 < length a → 0 < length b → sa ≡ get_or a (length a - 1) sa → sb ≡ get_or b (length b - 1) sb
-  → word_value v top ≡ (if lit_true v sa then pos 0 -ℤ word_value v a else word_value v a)
-  → word_value v d ≡ (if lit_true v sb then pos 0 -ℤ word_value v b else word_value v b)
-  → (pos 0 ≤ℤ word_value v top → pos 0 <ℤ word_value v d → IsQuotient (word_value v top) (word_value v d) (word_value v q) (word_value v r))
-  → 0 < unsigned_abs (word_value v b)
-  → (word_value v q ≡ pos (unsigned_abs (word_value v a) / unsigned_abs (word_value v b)))
-      × (word_value v r ≡ pos (unsigned_abs (word_value v a) % unsigned_abs (word_value v b)))
+    → word_value v top ≡ (if lit_true v sa then pos 0 -ℤ word_value v a else word_value v a)
+    → word_value v d ≡ (if lit_true v sb then pos 0 -ℤ word_value v b else word_value v b)
+    → (pos 0 ≤ℤ word_value v top → pos 0 <ℤ word_value v d → IsQuotient (word_value v top) (word_value v d) (word_value v q) (word_value v r))
+    → 0 < unsigned_abs (word_value v b)
+    → (word_value v q ≡ pos (unsigned_abs (word_value v a) / unsigned_abs (word_value v b)))
+    × (word_value v r ≡ pos (unsigned_abs (word_value v a) % unsigned_abs (word_value v b)))
 magnitudes v a b top d q r sa sb la lb ea eb pt pd h some =
     let et : word_value v top ≡ pos (unsigned_abs (word_value v a)) = pt ∙ magnitude (lit_true v sa) (word_value v a) (sign_word v a sa la ea) in
     let ed : word_value v d ≡ pos (unsigned_abs (word_value v b)) = pd ∙ magnitude (lit_true v sb) (word_value v b) (sign_word v b sb lb eb) in
     let is = rw (et, ed) at h in
     quotient_is (unsigned_abs (word_value v a)) (unsigned_abs (word_value v b)) (word_value v q) (word_value v r)
-      (is (least_zero (unsigned_abs (word_value v a))) (above_zero (unsigned_abs (word_value v b)) some))
+    (is (least_zero (unsigned_abs (word_value v a))) (above_zero (unsigned_abs (word_value v b)) some))
 
 pub divide_none : (s : Cnf) (m k : ℕ) (done d bs left : List ℤ) (never : ℤ) → done ≡ [] → bs ≡ [] → left ≡ padded k (never ∷ [])
-  → Built s s m [] (λ v. lit_true v never ≡ false → pos 0 <ℤ word_value v d → IsQuotient (above (bits v done) (pos 0)) (word_value v d) (above (bits v bs) (pos 0)) (word_value v left))
+    → Built s s m [] (λ v. lit_true v never ≡ false → pos 0 <ℤ word_value v d → IsQuotient (above (bits v done) (pos 0)) (word_value v d) (above (bits v bs) (pos 0)) (word_value v left))
 divide_none s m k done d bs left never e f g =
     built_as (built_none s [] (λ v. lit_true v never ≡ false → pos 0 <ℤ word_value v d → IsQuotient (above (bits v done) (pos 0)) (word_value v d) (above (bits v bs) (pos 0)) (word_value v left))
-        (named_none s.variables) (λ v en pd. rw (e, f, none_word v k left never g en) (quotient_none (word_value v d) pd)))
-      (omega arith) (named_none s.variables) (λ v p. p)
+    (named_none s.variables) (λ v en pd. rw (e, f, none_word v k left never g en) (quotient_none (word_value v d) pd)))
+    (omega arith) (named_none s.variables) (λ v p. p)

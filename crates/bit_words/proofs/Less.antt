@@ -54,41 +54,41 @@ pub lesser_none : (s0 s1 : Cnf) (a b : List ℤ) (lit : ℤ) → IsGate s0 s1 1 
 lesser_none s0 s1 a b lit g = built_as g (omega arith) g.names (λ v p. ap (λ z. less_bits z (bits v a) (bits v b)) p)
 
 pub lesser_step : (s0 s1 s2 : Cnf) (i m n : ℕ) (a b : List ℤ) (x y not_x : ℤ) (left other : List ℤ) (so_far next : ℤ)
-  → Built s0 s1 i (so_far ∷ []) (Lesser a b (x ∷ left) (y ∷ other) so_far) → Names n x → not_x ≡ neg_ℤ x → 0 < length left → length left ≡ length other
-  → IsGate s1 s2 1 next (λ v. majority (lit_true v not_x) (lit_true v y) (lit_true v so_far)) → i + 1 ≤ m
-  → Built s0 s2 m (next ∷ []) (Lesser a b left other next)
+    → Built s0 s1 i (so_far ∷ []) (Lesser a b (x ∷ left) (y ∷ other) so_far) → Names n x → not_x ≡ neg_ℤ x → 0 < length left → length left ≡ length other
+    → IsGate s1 s2 1 next (λ v. majority (lit_true v not_x) (lit_true v y) (lit_true v so_far)) → i + 1 ≤ m
+    → Built s0 s2 m (next ∷ []) (Lesser a b left other next)
 lesser_step s0 s1 s2 i m n a b x y not_x left other so_far next h nx e l ll g le =
     built_both h g (omega (arith, le)) g.names
-      (λ v p q. ap (λ z. less_bits z (bits v left) (bits v other))
-          (q ∙ ap (λ z. majority z (lit_true v y) (lit_true v so_far)) (ap (lit_true v) e ∙ opposite_value n x v nx))
-        ∙ sym (less_more (lit_true v so_far) (lit_true v x) (lit_true v y) (bits v left) (bits v other)
-            (omega (arith, l, length-map left (lit_true v))) (omega (arith, ll, length-map left (lit_true v), length-map other (lit_true v))))
-        ∙ p)
+    (λ v p q. ap (λ z. less_bits z (bits v left) (bits v other))
+    (q ∙ ap (λ z. majority z (lit_true v y) (lit_true v so_far)) (ap (lit_true v) e ∙ opposite_value n x v nx))
+    ∙ sym (less_more (lit_true v so_far) (lit_true v x) (lit_true v y) (bits v left) (bits v other)
+    (omega (arith, l, length-map left (lit_true v))) (omega (arith, ll, length-map left (lit_true v), length-map other (lit_true v))))
+    ∙ p)
 
 pub lesser_all : (s0 s1 s2 : Cnf) (i m n : ℕ) (a b : List ℤ) (x y not_y : ℤ) (so_far lit : ℤ)
-  → Built s0 s1 i (so_far ∷ []) (Lesser a b (x ∷ []) (y ∷ []) so_far) → Names n y → not_y ≡ neg_ℤ y
-  → IsGate s1 s2 1 lit (λ v. majority (lit_true v x) (lit_true v not_y) (lit_true v so_far)) → i + 1 ≤ m
-  → IsGate s0 s2 m lit (λ v. less_bits false (bits v a) (bits v b))
+    → Built s0 s1 i (so_far ∷ []) (Lesser a b (x ∷ []) (y ∷ []) so_far) → Names n y → not_y ≡ neg_ℤ y
+    → IsGate s1 s2 1 lit (λ v. majority (lit_true v x) (lit_true v not_y) (lit_true v so_far)) → i + 1 ≤ m
+    → IsGate s0 s2 m lit (λ v. less_bits false (bits v a) (bits v b))
 lesser_all s0 s1 s2 i m n a b x y not_y so_far lit h ny e g le =
     built_both h g (omega (arith, le)) g.names
-      (λ v p q. q ∙ ap (λ z. majority (lit_true v x) z (lit_true v so_far)) (ap (lit_true v) e ∙ opposite_value n y v ny) ∙ p)
+    (λ v p q. q ∙ ap (λ z. majority (lit_true v x) z (lit_true v so_far)) (ap (lit_true v) e ∙ opposite_value n y v ny) ∙ p)
 
 plus_none : (z : ℤ) → z +ℤ pos 0 ≡ z
 plus_none z = omega (arith, ints)
 
 -- of words that were extended to one width
 pub less_gate : (s0 s1 : Cnf) (m m' w : ℕ) (a b a' b' : List ℤ) (lit : ℤ) → 0 < length a → 0 < length b → length a ≤ w → length b ≤ w
-  → a' ≡ padded (w - length a) a → b' ≡ padded (w - length b) b
-  → IsGate s0 s1 m' lit (λ v. less_bits false (bits v a') (bits v b')) → m' ≤ m
-  → IsGate s0 s1 m lit (λ v. int_lt (word_value v a) (word_value v b))
+    → a' ≡ padded (w - length a) a → b' ≡ padded (w - length b) b
+    → IsGate s0 s1 m' lit (λ v. less_bits false (bits v a') (bits v b')) → m' ≤ m
+    → IsGate s0 s1 m lit (λ v. int_lt (word_value v a) (word_value v b))
 less_gate s0 s1 m m' w a b a' b' lit la lb wa wb ea eb g le = built_as g le g.names (λ v h.
     let j : ℕ = w - length a in
     let k : ℕ = w - length b in
     let p : length (padded j (bits v a)) ≡ length (bits v a) + j = length-padded j (bits v a) (omega (arith, la, length-map a (lit_true v))) in
     let q : length (padded k (bits v b)) ≡ length (bits v b) + k = length-padded k (bits v b) (omega (arith, lb, length-map b (lit_true v))) in
     h ∙ ap (λ l. less_bits false l (bits v b')) (ap (bits v) ea ∙ bits-padded v j a)
-      ∙ ap (λ l. less_bits false (padded j (bits v a)) l) (ap (bits v) eb ∙ bits-padded v k b)
-      ∙ less_ints false (padded j (bits v a)) (padded k (bits v b)) (omega (arith, la, p, length-map a (lit_true v))) (omega (arith, wa, wb, p, q, length-map a (lit_true v), length-map b (lit_true v)))
-      ∙ ap (λ z. int_lt (int_of (padded j (bits v a))) z) (plus_none (int_of (padded k (bits v b))))
-      ∙ ap (λ z. int_lt z (int_of (padded k (bits v b)))) (int_of-padded j (bits v a))
-      ∙ ap (λ z. int_lt (word_value v a) z) (int_of-padded k (bits v b)))
+    ∙ ap (λ l. less_bits false (padded j (bits v a)) l) (ap (bits v) eb ∙ bits-padded v k b)
+    ∙ less_ints false (padded j (bits v a)) (padded k (bits v b)) (omega (arith, la, p, length-map a (lit_true v))) (omega (arith, wa, wb, p, q, length-map a (lit_true v), length-map b (lit_true v)))
+    ∙ ap (λ z. int_lt (int_of (padded j (bits v a))) z) (plus_none (int_of (padded k (bits v b))))
+    ∙ ap (λ z. int_lt z (int_of (padded k (bits v b)))) (int_of-padded j (bits v a))
+    ∙ ap (λ z. int_lt (word_value v a) z) (int_of-padded k (bits v b)))

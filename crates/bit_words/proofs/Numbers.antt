@@ -29,7 +29,7 @@ int_of-padded k (x ∷ y ∷ ys) =
     ∙ (rw (int_of-padded k (y ∷ ys)) refl)
 
 fits_step : (x : Bool) (z : ℤ) (p q : ℕ) → q ≡ 2 * p → (neg_ℤ (pos p) ≤ℤ z) × (z <ℤ pos p)
-  → (neg_ℤ (pos q) ≤ℤ (bit_int x +ℤ (z +ℤ z))) × ((bit_int x +ℤ (z +ℤ z)) <ℤ pos q)
+    → (neg_ℤ (pos q) ≤ℤ (bit_int x +ℤ (z +ℤ z))) × ((bit_int x +ℤ (z +ℤ z)) <ℤ pos q)
 fits_step true z p q e h = (omega (arith, ints, e, h), omega (arith, ints, e, h))
 fits_step false z p q e h = (omega (arith, ints, e, h), omega (arith, ints, e, h))
 
@@ -41,7 +41,7 @@ int_of-fits (false ∷ []) = (omega (arith, ints), omega (arith, ints))
 int_of-fits (x ∷ y ∷ ys) = fits_step x (int_of (y ∷ ys)) (2 ^ length ys) (2 ^ (suc (length ys))) (pow-succ' 2 (length ys)) (int_of-fits (y ∷ ys))
 
 fits_half : (x : Bool) (z : ℤ) (p q : ℕ) → q ≡ 2 * p → (neg_ℤ (pos q) ≤ℤ (bit_int x +ℤ (z +ℤ z))) × ((bit_int x +ℤ (z +ℤ z)) <ℤ pos q)
-  → (neg_ℤ (pos p) ≤ℤ z) × (z <ℤ pos p)
+    → (neg_ℤ (pos p) ≤ℤ z) × (z <ℤ pos p)
 fits_half true z p q e h = (omega (arith, ints, e, h), omega (arith, ints, e, h))
 fits_half false z p q e h = (omega (arith, ints, e, h), omega (arith, ints, e, h))
 

@@ -74,20 +74,20 @@ take_last r c = omega (arith, ints)
 
 -- one row is added, and its lowest bit is done
 pub rowing_next : (v : Values) (a b done rows row sum next left : List ℤ) (x low never : ℤ) → Rowing a b done rows (x ∷ left) v → 0 < length left
-  → word_value v row ≡ (if lit_true v x then word_value v a else pos 0)
-  → word_value v sum ≡ (word_value v rows +ℤ word_value v row) +ℤ bit_int (lit_true v never) → lit_true v never ≡ false
-  → 1 < length sum → low ≡ get_or sum 0 low → next ≡ drop 1 sum
-  → Rowing a b (done ++ low ∷ []) next left v
+    → word_value v row ≡ (if lit_true v x then word_value v a else pos 0)
+    → word_value v sum ≡ (word_value v rows +ℤ word_value v row) +ℤ bit_int (lit_true v never) → lit_true v never ≡ false
+    → 1 < length sum → low ≡ get_or sum 0 low → next ≡ drop 1 sum
+    → Rowing a b (done ++ low ∷ []) next left v
 rowing_next v a b done rows row sum next left x low never i some r s n ls el en =
     let p = int_of (bits v left) in
     let m = word_value v a in
     let c : ℤ = if lit_true v x then m else pos 0 in
     let parts : word_value v sum ≡ bit_int (lit_true v low) +ℤ (word_value v next +ℤ word_value v next) =
-        word_parts v sum low ls el ∙ ap (λ w. bit_int (lit_true v low) +ℤ (word_value v w +ℤ word_value v w)) (sym en) in
+    word_parts v sum low ls el ∙ ap (λ w. bit_int (lit_true v low) +ℤ (word_value v w +ℤ word_value v w)) (sym en) in
     let total : word_value v rows +ℤ c ≡ bit_int (lit_true v low) +ℤ (word_value v next +ℤ word_value v next) =
-        sym (s ∙ ap (λ z. (word_value v rows +ℤ z) +ℤ bit_int (lit_true v never)) r ∙ ap (λ z. (word_value v rows +ℤ c) +ℤ bit_int z) n ∙ no_carry (word_value v rows +ℤ c)) ∙ parts in
+    sym (s ∙ ap (λ z. (word_value v rows +ℤ z) +ℤ bit_int (lit_true v never)) r ∙ ap (λ z. (word_value v rows +ℤ c) +ℤ bit_int z) n ∙ no_carry (word_value v rows +ℤ c)) ∙ parts in
     let whole : int_of (bits v (x ∷ left)) *ℤ m ≡ c +ℤ ((p *ℤ m) +ℤ (p *ℤ m)) =
-        ap (λ z. z *ℤ m) (int_of-more (lit_true v x) (bits v left) (omega (arith, some, length-map left (lit_true v)))) ∙ mul_step (lit_true v x) p m in
+    ap (λ z. z *ℤ m) (int_of-more (lit_true v x) (bits v left) (omega (arith, some, length-map left (lit_true v)))) ∙ mul_step (lit_true v x) p m in
     ap (λ l. above l (word_value v next +ℤ (p *ℤ m))) (map-append (lit_true v) done (low ∷ []))
     ∙ above-append (bits v done) (lit_true v low) (word_value v next +ℤ (p *ℤ m))
     ∙ ap (above (bits v done)) (regroup (word_value v rows) (bit_int (lit_true v low)) (p *ℤ m) (word_value v next) c total ∙ ap (λ z. word_value v rows +ℤ z) (sym whole))
@@ -95,14 +95,14 @@ rowing_next v a b done rows row sum next left x low never i some r s n ls el en 
 
 -- the last row is taken away
 pub rowing_all : (v : Values) (a b done rows row rest : List ℤ) (x never : ℤ) → Rowing a b done rows (x ∷ []) v
-  → word_value v row ≡ (if lit_true v x then word_value v a else pos 0)
-  → word_value v rest ≡ (word_value v rows -ℤ word_value v row) -ℤ bit_int (lit_true v never) → lit_true v never ≡ false
-  → 0 < length rest → word_value v (done ++ rest) ≡ word_value v a *ℤ word_value v b
+    → word_value v row ≡ (if lit_true v x then word_value v a else pos 0)
+    → word_value v rest ≡ (word_value v rows -ℤ word_value v row) -ℤ bit_int (lit_true v never) → lit_true v never ≡ false
+    → 0 < length rest → word_value v (done ++ rest) ≡ word_value v a *ℤ word_value v b
 rowing_all v a b done rows row rest x never i r s n some =
     let m = word_value v a in
     let c : ℤ = if lit_true v x then m else pos 0 in
     let total : word_value v rest ≡ word_value v rows -ℤ c =
-        s ∙ ap (λ z. (word_value v rows -ℤ z) -ℤ bit_int (lit_true v never)) r ∙ ap (λ z. (word_value v rows -ℤ c) -ℤ bit_int z) n ∙ no_borrow (word_value v rows -ℤ c) in
+    s ∙ ap (λ z. (word_value v rows -ℤ z) -ℤ bit_int (lit_true v never)) r ∙ ap (λ z. (word_value v rows -ℤ c) -ℤ bit_int z) n ∙ no_borrow (word_value v rows -ℤ c) in
     ap int_of (map-append (lit_true v) done rest) ∙ int_of-above (bits v done) (bits v rest) (omega (arith, some, length-map rest (lit_true v)))
     ∙ ap (above (bits v done)) (total ∙ take_last (word_value v rows) c ∙ ap (λ z. word_value v rows +ℤ z) (sym (mul_last (lit_true v x) m)))
     ∙ i ∙ *ℤ_comm (word_value v b) m
@@ -126,14 +126,14 @@ masked_int xs k false h = ap int_of (zip_mask xs k false h) ∙ int_of-none (len
 
 -- a word whose bits were masked
 pub masked_word : (s0 s1 : Cnf) (m m' w : ℕ) (a mask out : List ℤ) (keep : ℤ) → 0 < length a → w ≡ length a → mask ≡ padded (w - 1) (keep ∷ [])
-  → Built s0 s1 m' out (λ v. bits v out ≡ zip_bits (λ x y. x && y) (bits v a) (bits v mask)) → m' ≤ m → length out ≡ length a
-  → IsWord s0 s1 m out (λ v. if lit_true v keep then word_value v a else pos 0)
+    → Built s0 s1 m' out (λ v. bits v out ≡ zip_bits (λ x y. x && y) (bits v a) (bits v mask)) → m' ≤ m → length out ≡ length a
+    → IsWord s0 s1 m out (λ v. if lit_true v keep then word_value v a else pos 0)
 masked_word s0 s1 m m' w a mask out keep la ew em g le lo = record {
   some = omega (arith, la, lo);
   built = built_as g le g.names (λ v p.
-    let k : ℕ = w - 1 in
-    ap int_of (p ∙ ap (λ l. zip_bits (λ x y. x && y) (bits v a) l) (ap (bits v) em ∙ bits-padded v k (keep ∷ [])))
-    ∙ masked_int (bits v a) (suc k) (lit_true v keep) (omega (arith, la, ew, length-map a (lit_true v))));
+      let k : ℕ = w - 1 in
+      ap int_of (p ∙ ap (λ l. zip_bits (λ x y. x && y) (bits v a) l) (ap (bits v) em ∙ bits-padded v k (keep ∷ [])))
+      ∙ masked_int (bits v a) (suc k) (lit_true v keep) (omega (arith, la, ew, length-map a (lit_true v))));
 }
 
 -- a word of copies of a literal that never holds
@@ -150,25 +150,25 @@ mul_more i n k h =
     omega (arith, ap (λ z. z * k) e, add-mul (i + 1) (n - (i + 1)) k, mul_next i k)
 
 pub rows_step : (s0 s1 s2 s3 : Cnf) (i m n : ℕ) (a b done rows row sum next left : List ℤ) (x low never : ℤ)
-  → Built s0 s1 i [] (λ v. (lit_true v never ≡ false) × Rowing a b done rows (x ∷ left) v)
-  → IsWord s1 s2 (length a) row (λ v. if lit_true v x then word_value v a else pos 0)
-  → IsWord s2 s3 n sum (λ v. (word_value v rows +ℤ word_value v row) +ℤ bit_int (lit_true v never))
-  → 0 < length left → 1 < length sum → low ≡ get_or sum 0 low → next ≡ drop 1 sum → i + (length a + n) ≤ m
-  → Built s0 s3 m [] (λ v. (lit_true v never ≡ false) × Rowing a b (done ++ low ∷ []) next left v)
+    → Built s0 s1 i [] (λ v. (lit_true v never ≡ false) × Rowing a b done rows (x ∷ left) v)
+    → IsWord s1 s2 (length a) row (λ v. if lit_true v x then word_value v a else pos 0)
+    → IsWord s2 s3 n sum (λ v. (word_value v rows +ℤ word_value v row) +ℤ bit_int (lit_true v never))
+    → 0 < length left → 1 < length sum → low ≡ get_or sum 0 low → next ≡ drop 1 sum → i + (length a + n) ≤ m
+    → Built s0 s3 m [] (λ v. (lit_true v never ≡ false) × Rowing a b (done ++ low ∷ []) next left v)
 rows_step s0 s1 s2 s3 i m n a b done rows row sum next left x low never g r s some ls el en le =
     built_both (built_then g r.built) s.built (omega (arith, le)) (named_none s3.variables)
-      (λ v p q. (p.0.0, rowing_next v a b done rows row sum next left x low never p.0.1 some p.1 q p.0.0 ls el en))
+    (λ v p q. (p.0.0, rowing_next v a b done rows row sum next left x low never p.0.1 some p.1 q p.0.0 ls el en))
 
 pub rows_all : (s0 s1 s2 s3 : Cnf) (i m n : ℕ) (a b done rows row rest out : List ℤ) (x never : ℤ)
-  → Built s0 s1 i [] (λ v. (lit_true v never ≡ false) × Rowing a b done rows (x ∷ []) v)
-  → IsWord s1 s2 (length a) row (λ v. if lit_true v x then word_value v a else pos 0)
-  → IsWord s2 s3 n rest (λ v. (word_value v rows -ℤ word_value v row) -ℤ bit_int (lit_true v never))
-  → i + (length a + n) ≤ m → All (Names s1.variables) done → out ≡ done ++ rest
-  → IsWord s0 s3 m out (λ v. word_value v a *ℤ word_value v b)
+    → Built s0 s1 i [] (λ v. (lit_true v never ≡ false) × Rowing a b done rows (x ∷ []) v)
+    → IsWord s1 s2 (length a) row (λ v. if lit_true v x then word_value v a else pos 0)
+    → IsWord s2 s3 n rest (λ v. (word_value v rows -ℤ word_value v row) -ℤ bit_int (lit_true v never))
+    → i + (length a + n) ≤ m → All (Names s1.variables) done → out ≡ done ++ rest
+    → IsWord s0 s3 m out (λ v. word_value v a *ℤ word_value v b)
 rows_all s0 s1 s2 s3 i m n a b done rows row rest out x never g r s le names eo = record {
   some = omega (arith, ap length eo, length-append done rest, s.some);
   built = built_both (built_then g r.built) s.built (omega (arith, le))
-    (let P : List ℤ → Type 0 = λ l. All (Names s3.variables) l in
+      (let P : List ℤ → Type 0 = λ l. All (Names s3.variables) l in
       subst P (sym eo) (All-append (Names s3.variables) done rest (all_later s1.variables s3.variables done names (omega (arith, r.built.variables, s.built.variables))) s.built.names))
-    (λ v p q. ap (word_value v) eo ∙ rowing_all v a b done rows row rest x never p.0.1 p.1 q p.0.0 s.some);
+      (λ v p q. ap (word_value v) eo ∙ rowing_all v a b done rows row rest x never p.0.1 p.1 q p.0.0 s.some);
 }

@@ -48,9 +48,10 @@ module _ (old new : Cnf) (f : Values → Bool) (added : List (List ℤ))
   last : (v w : Values) → AgreeUpTo old.variables v w → Solves w added → AgreeUpTo new.variables (put v new.variables (f v)) w
   last v w e s k lo hi =
       elim (cases_lt k new.variables) [
-        inl h ↦ sym (put_agrees v (f v) k lo (omega (arith, more, h))) ∙ e k lo (omega (arith, more, h))
-      | inr h ↦ let i : k ≡ new.variables = omega arith in
-          ap (put v new.variables (f v)) i ∙ put_at v (f v) ∙ local v w e ∙ sym (value_is w s) ∙ ap w (sym i) ]
+        | inl h ↦ sym (put_agrees v (f v) k lo (omega (arith, more, h))) ∙ e k lo (omega (arith, more, h))
+        | inr h ↦ let i : k ≡ new.variables = omega arith in
+            ap (put v new.variables (f v)) i ∙ put_at v (f v) ∙ local v w e ∙ sym (value_is w s) ∙ ap w (sym i)
+      ]
 
   pub gate_made : (lit : ℤ) → lit ≡ pos new.variables → IsGate old new 1 lit f
   gate_made lit e = record {
@@ -111,7 +112,7 @@ choose_table false false false true = refl
 choose_table false false false false = refl
 
 majority_table : (r a b c : Bool) → ((not r || (a || (b || false))) && ((not r || (a || (c || false))) && ((not r || (b || (c || false)))
-  && ((r || (not a || (not b || false))) && ((r || (not a || (not c || false))) && ((r || (not b || (not c || false))) && true)))))) ≡ same r (majority a b c)
+    && ((r || (not a || (not b || false))) && ((r || (not a || (not c || false))) && ((r || (not b || (not c || false))) && true)))))) ≡ same r (majority a b c)
 majority_table true true true true = refl
 majority_table true true true false = refl
 majority_table true true false true = refl
@@ -165,18 +166,19 @@ module _ (old new : Cnf) (r : ℤ) (more : new.variables ≡ old.variables + 1) 
   module _ (a b : ℤ) (ha : Names old.variables a) (hb : Names old.variables b) where
     oa : (v : Values) → lit_true v (neg_ℤ a) ≡ not (lit_true v a)
     oa v = opposite_value old.variables a v ha
+
     ob : (v : Values) → lit_true v (neg_ℤ b) ≡ not (lit_true v b)
     ob v = opposite_value old.variables b v hb
 
     pub and_gate : new.clauses ≡ old.clauses ++ (neg_ℤ r ∷ a ∷ []) ∷ (neg_ℤ r ∷ b ∷ []) ∷ (r ∷ neg_ℤ a ∷ neg_ℤ b ∷ []) ∷ []
-      → IsGate old new 1 r (λ v. lit_true v a && lit_true v b)
+        → IsGate old new 1 r (λ v. lit_true v a && lit_true v b)
     and_gate e = gate_made old new (λ v. lit_true v a && lit_true v b) _ more e
         (λ v w h. rw (value_agrees old.variables v w a h ha, value_agrees old.variables v w b h hb) refl)
         (λ v. rw (nr v, oa v, ob v, last_value v) (and_table (v new.variables) (lit_true v a) (lit_true v b)))
         r is
 
     pub xor_gate : new.clauses ≡ old.clauses ++ (neg_ℤ r ∷ a ∷ b ∷ []) ∷ (neg_ℤ r ∷ neg_ℤ a ∷ neg_ℤ b ∷ []) ∷ (r ∷ neg_ℤ a ∷ b ∷ []) ∷ (r ∷ a ∷ neg_ℤ b ∷ []) ∷ []
-      → IsGate old new 1 r (λ v. differ (lit_true v a) (lit_true v b))
+        → IsGate old new 1 r (λ v. differ (lit_true v a) (lit_true v b))
     xor_gate e = gate_made old new (λ v. differ (lit_true v a) (lit_true v b)) _ more e
         (λ v w h. rw (value_agrees old.variables v w a h ha, value_agrees old.variables v w b h hb) refl)
         (λ v. rw (nr v, oa v, ob v, last_value v) (xor_table (v new.variables) (lit_true v a) (lit_true v b)))
@@ -187,7 +189,7 @@ module _ (old new : Cnf) (r : ℤ) (more : new.variables ≡ old.variables + 1) 
       oc v = opposite_value old.variables c v hc
 
       pub choose_gate : new.clauses ≡ old.clauses ++ (neg_ℤ c ∷ neg_ℤ r ∷ a ∷ []) ∷ (neg_ℤ c ∷ r ∷ neg_ℤ a ∷ []) ∷ (c ∷ neg_ℤ r ∷ b ∷ []) ∷ (c ∷ r ∷ neg_ℤ b ∷ []) ∷ []
-        → IsGate old new 1 r (λ v. if lit_true v c then lit_true v a else lit_true v b)
+          → IsGate old new 1 r (λ v. if lit_true v c then lit_true v a else lit_true v b)
       choose_gate e = gate_made old new (λ v. if lit_true v c then lit_true v a else lit_true v b) _ more e
           (λ v w h. rw (value_agrees old.variables v w c h hc, value_agrees old.variables v w a h ha, value_agrees old.variables v w b h hb) refl)
           (λ v. rw (nr v, oa v, ob v, oc v, last_value v) (choose_table (v new.variables) (lit_true v c) (lit_true v a) (lit_true v b)))
@@ -195,7 +197,7 @@ module _ (old new : Cnf) (r : ℤ) (more : new.variables ≡ old.variables + 1) 
 
       pub majority_gate : new.clauses ≡ old.clauses ++ (neg_ℤ r ∷ a ∷ b ∷ []) ∷ (neg_ℤ r ∷ a ∷ c ∷ []) ∷ (neg_ℤ r ∷ b ∷ c ∷ [])
           ∷ (r ∷ neg_ℤ a ∷ neg_ℤ b ∷ []) ∷ (r ∷ neg_ℤ a ∷ neg_ℤ c ∷ []) ∷ (r ∷ neg_ℤ b ∷ neg_ℤ c ∷ []) ∷ []
-        → IsGate old new 1 r (λ v. majority (lit_true v a) (lit_true v b) (lit_true v c))
+          → IsGate old new 1 r (λ v. majority (lit_true v a) (lit_true v b) (lit_true v c))
       majority_gate e = gate_made old new (λ v. majority (lit_true v a) (lit_true v b) (lit_true v c)) _ more e
           (λ v w h. rw (value_agrees old.variables v w c h hc, value_agrees old.variables v w a h ha, value_agrees old.variables v w b h hb) refl)
           (λ v. rw (nr v, oa v, ob v, oc v, last_value v) (majority_table (v new.variables) (lit_true v a) (lit_true v b) (lit_true v c)))

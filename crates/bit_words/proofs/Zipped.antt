@@ -24,7 +24,7 @@ zipping_none s f a b out e =
     subst P (sym e) (built_none s [] (Zipping f a b a b []) (named_none s.variables) (λ v. refl))
 
 zipping_next : (v : Values) (f : Values → Bool → Bool → Bool) (a b : List ℤ) (x y : ℤ) (left other out : List ℤ) (bit : ℤ)
-  → Zipping f a b (x ∷ left) (y ∷ other) out v → lit_true v bit ≡ f v (lit_true v x) (lit_true v y) → Zipping f a b left other (out ++ bit ∷ []) v
+    → Zipping f a b (x ∷ left) (y ∷ other) out v → lit_true v bit ≡ f v (lit_true v x) (lit_true v y) → Zipping f a b left other (out ++ bit ∷ []) v
 zipping_next v f a b x y left other out bit p q =
     ap (λ l. l ++ zip_bits (f v) (bits v left) (bits v other)) (map-append (lit_true v) out (bit ∷ []))
     ∙ append_assoc (bits v out) (lit_true v bit ∷ []) (zip_bits (f v) (bits v left) (bits v other))
@@ -32,14 +32,14 @@ zipping_next v f a b x y left other out bit p q =
     ∙ p
 
 pub zipping_step : (s0 s1 s2 : Cnf) (i m : ℕ) (f : Values → Bool → Bool → Bool) (a b : List ℤ) (x y : ℤ) (left other out : List ℤ) (bit : ℤ)
-  → Built s0 s1 i out (Zipping f a b (x ∷ left) (y ∷ other) out) → IsGate s1 s2 1 bit (λ v. f v (lit_true v x) (lit_true v y)) → i + 1 ≤ m
-  → Built s0 s2 m (out ++ bit ∷ []) (Zipping f a b left other (out ++ bit ∷ []))
+    → Built s0 s1 i out (Zipping f a b (x ∷ left) (y ∷ other) out) → IsGate s1 s2 1 bit (λ v. f v (lit_true v x) (lit_true v y)) → i + 1 ≤ m
+    → Built s0 s2 m (out ++ bit ∷ []) (Zipping f a b left other (out ++ bit ∷ []))
 zipping_step s0 s1 s2 i m f a b x y left other out bit h g le =
     built_both h g le (All-append (Names s2.variables) out (bit ∷ []) (all_later s1.variables s2.variables out h.names g.variables) g.names)
-      (λ v p q. zipping_next v f a b x y left other out bit p q)
+    (λ v p q. zipping_next v f a b x y left other out bit p q)
 
 pub zipping_all : (s0 s1 : Cnf) (i m : ℕ) (f : Values → Bool → Bool → Bool) (a b left other out : List ℤ) → Built s0 s1 i out (Zipping f a b left other out) → left ≡ [] → i ≤ m
-  → Built s0 s1 m out (λ v. bits v out ≡ zip_bits (f v) (bits v a) (bits v b))
+    → Built s0 s1 m out (λ v. bits v out ≡ zip_bits (f v) (bits v a) (bits v b))
 zipping_all s0 s1 i m f a b left other out h e le =
     built_as h le h.names (λ v p. sym (append-nil (bits v out)) ∙ sym (ap (λ z. bits v out ++ zip_bits (f v) (bits v z) (bits v other)) e) ∙ p)
 
@@ -64,9 +64,9 @@ chosen_int false xs ys p q e f = f
 
 -- a choice between words that were extended to one width
 pub choice_word : (s0 s1 : Cnf) (m m' w : ℕ) (c : ℤ) (a b a' b' out : List ℤ) → 0 < length a → 0 < length b → length a ≤ w → length b ≤ w
-  → a' ≡ padded (w - length a) a → b' ≡ padded (w - length b) b
-  → Built s0 s1 m' out (λ v. bits v out ≡ zip_bits (λ x y. if lit_true v c then x else y) (bits v a') (bits v b')) → m' ≤ m → length out ≡ length a'
-  → IsWord s0 s1 m out (λ v. if lit_true v c then word_value v a else word_value v b)
+    → a' ≡ padded (w - length a) a → b' ≡ padded (w - length b) b
+    → Built s0 s1 m' out (λ v. bits v out ≡ zip_bits (λ x y. if lit_true v c then x else y) (bits v a') (bits v b')) → m' ≤ m → length out ≡ length a'
+    → IsWord s0 s1 m out (λ v. if lit_true v c then word_value v a else word_value v b)
 choice_word s0 s1 m m' w c a b a' b' out la lb wa wb ea eb g le lo =
     let j : ℕ = w - length a in
     let k : ℕ = w - length b in
@@ -75,10 +75,10 @@ choice_word s0 s1 m m' w c a b a' b' out la lb wa wb ea eb g le lo =
     record {
       some = omega (arith, la, l, lo);
       built = built_as g le g.names (λ v p.
-        ap int_of (p ∙ zip_choice (lit_true v c) (bits v a') (bits v b') (omega (arith, wa, wb, l, l', length-map a' (lit_true v), length-map b' (lit_true v))))
-        ∙ chosen_int (lit_true v c) (bits v a') (bits v b') (word_value v a) (word_value v b)
-            (ap (word_value v) ea ∙ ap int_of (bits-padded v j a) ∙ int_of-padded j (bits v a))
-            (ap (word_value v) eb ∙ ap int_of (bits-padded v k b) ∙ int_of-padded k (bits v b)));
+          ap int_of (p ∙ zip_choice (lit_true v c) (bits v a') (bits v b') (omega (arith, wa, wb, l, l', length-map a' (lit_true v), length-map b' (lit_true v))))
+          ∙ chosen_int (lit_true v c) (bits v a') (bits v b') (word_value v a) (word_value v b)
+          (ap (word_value v) ea ∙ ap int_of (bits-padded v j a) ∙ int_of-padded j (bits v a))
+          (ap (word_value v) eb ∙ ap int_of (bits-padded v k b) ∙ int_of-padded k (bits v b)));
     }
 
 pub named_later : (m n : ℕ) (g : BitGate) → IsNamed m g → m ≤ n → IsNamed n g

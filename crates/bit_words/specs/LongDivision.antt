@@ -33,4 +33,4 @@ pub record AreDivided (old new : Cnf) (low divisor : List ℤ) (never : ℤ) (qu
   pub quotient_names : All (Names new.variables) quotient
   pub left_names : All (Names new.variables) left
   pub built : Built old new (length low * (4 * length divisor + 8)) [] (λ v. lit_true v never ≡ false → pos 0 <ℤ word_value v divisor
-    → IsQuotient (above (bits v low) (pos 0)) (word_value v divisor) (word_value v quotient) (word_value v left))
+      → IsQuotient (above (bits v low) (pos 0)) (word_value v divisor) (word_value v quotient) (word_value v left))

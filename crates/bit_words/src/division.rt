@@ -46,7 +46,7 @@ impl Builder {
         ensures width { IfOk result (λ word. length word ≡ length a.now) }
         ensures word { IfOk result (λ word. Built self.old self.new (2 * length divisor.now + 1 + length a.now) word
             (λ v. lit_true v never ≡ false →
-                word_value v word ≡ (if int_eq (word_value v divisor.now) (pos 0) then pos 0 else word_value v a.now))) }
+            word_value v word ≡ (if int_eq (word_value v divisor.now) (pos 0) then pos 0 else word_value v a.now))) }
     {
         let zero = BitInt::repeated(self.alloc, never, 1)?;
         let is_zero = self.equal_words(divisor, &zero)?;
@@ -56,7 +56,12 @@ impl Builder {
 
     /// One step of long division: the next bit of the quotient, and what is left.
     #[tactic(auto, using(crate::proofs::Standing::standing))]
-    fn divide_step(&mut self, next: &BitInt, divisor: &BitInt, never: Lit) -> Result<(Lit, BitInt), NoMemory>
+    fn divide_step(
+        &mut self,
+        next: &BitInt,
+        divisor: &BitInt,
+        never: Lit,
+    ) -> Result<(Lit, BitInt), NoMemory>
         requires space { self.old.variables + (4 * length divisor.now + 8) ≤ 2 ^ 62 }
         requires next { All (Names self.old.variables) next.now }
         requires divisor { All (Names self.old.variables) divisor.now }
@@ -67,7 +72,7 @@ impl Builder {
         ensures width { IfOk result (λ pair. length pair.1 ≡ length divisor.now) }
         ensures step { IfOk result (λ pair. Built self.old self.new (4 * length divisor.now + 8) (pair.0 ∷ pair.1)
             (λ v. lit_true v never ≡ false →
-                IsStep (word_value v next.now) (word_value v divisor.now) (lit_true v pair.0) (word_value v pair.1))) }
+            IsStep (word_value v next.now) (word_value v divisor.now) (lit_true v pair.0) (word_value v pair.1))) }
     {
         let difference = self.subtract_from(next, divisor, never)?;
         let less = difference.sign();
@@ -78,7 +83,12 @@ impl Builder {
 
     /// The quotient's bits and the rest of two numbers that aren't negative, of which the first one's sign is left out.
     #[tactic(auto, using(crate::proofs::Standing::standing))]
-    fn divide_bits(&mut self, low: &BitInt, divisor: &BitInt, never: Lit) -> Result<(BitInt, BitInt), NoMemory>
+    fn divide_bits(
+        &mut self,
+        low: &BitInt,
+        divisor: &BitInt,
+        never: Lit,
+    ) -> Result<(BitInt, BitInt), NoMemory>
         requires space { self.old.variables + length low.now * (4 * length divisor.now + 8) ≤ 2 ^ 62 }
         requires low { All (Names self.old.variables) low.now }
         requires divisor { All (Names self.old.variables) divisor.now }
@@ -102,7 +112,12 @@ impl Builder {
 
     /// The quotient and the rest of two numbers that aren't negative.
     #[tactic(auto, using(crate::proofs::Standing::standing))]
-    fn long_divide(&mut self, top: &BitInt, divisor: &BitInt, never: Lit) -> Result<(BitInt, BitInt), NoMemory>
+    fn long_divide(
+        &mut self,
+        top: &BitInt,
+        divisor: &BitInt,
+        never: Lit,
+    ) -> Result<(BitInt, BitInt), NoMemory>
         requires space { self.old.variables + (length top.now - 1) * (4 * length divisor.now + 8) ≤ 2 ^ 62 }
         requires top { All (Names self.old.variables) top.now }
         requires divisor { All (Names self.old.variables) divisor.now }
@@ -116,7 +131,7 @@ impl Builder {
         ensures rest_names { IfOk result (λ pair. All (Names self.new.variables) pair.1) }
         ensures divided { IfOk result (λ pair. Built self.old self.new ((length top.now - 1) * (4 * length divisor.now + 8)) []
             (λ v. lit_true v never ≡ false → pos 0 ≤ℤ word_value v top.now → pos 0 <ℤ word_value v divisor.now →
-                IsQuotient (word_value v top.now) (word_value v divisor.now) (word_value v pair.0) (word_value v pair.1))) }
+            IsQuotient (word_value v top.now) (word_value v divisor.now) (word_value v pair.0) (word_value v pair.1))) }
     {
         let low = top.narrowed(self.alloc, top.width() - 1)?;
         let pair = self.divide_bits(&low, divisor, never)?;
@@ -125,7 +140,12 @@ impl Builder {
 
     /// The quotient and the rest of the magnitudes.
     #[tactic(auto, using(crate::proofs::Standing::standing))]
-    fn divide_magnitudes(&mut self, a: &BitInt, b: &BitInt, never: Lit) -> Result<(BitInt, BitInt), NoMemory>
+    fn divide_magnitudes(
+        &mut self,
+        a: &BitInt,
+        b: &BitInt,
+        never: Lit,
+    ) -> Result<(BitInt, BitInt), NoMemory>
         requires space { self.old.variables + (4 * length a.now + 4 * length b.now + 8 + length a.now * (4 * length b.now + 12)) ≤ 2 ^ 62 }
         requires a { All (Names self.old.variables) a.now }
         requires b { All (Names self.old.variables) b.now }
@@ -140,8 +160,8 @@ impl Builder {
         ensures divided { IfOk result (λ pair. Built self.old self.new
             (4 * length a.now + 4 * length b.now + 8 + length a.now * (4 * length b.now + 12)) []
             (λ v. lit_true v never ≡ false → 0 < unsigned_abs (word_value v b.now) →
-                (word_value v pair.0 ≡ pos (unsigned_abs (word_value v a.now) / unsigned_abs (word_value v b.now)))
-                    × (word_value v pair.1 ≡ pos (unsigned_abs (word_value v a.now) % unsigned_abs (word_value v b.now))))) }
+            (word_value v pair.0 ≡ pos (unsigned_abs (word_value v a.now) / unsigned_abs (word_value v b.now)))
+            × (word_value v pair.1 ≡ pos (unsigned_abs (word_value v a.now) % unsigned_abs (word_value v b.now))))) }
     {
         let top = self.negated_where(a.sign(), a, never)?;
         let divisor = self.negated_where(b.sign(), b, never)?;

@@ -21,7 +21,7 @@ impl Builder {
         ensures stands { Stands self.old self.new }
         ensures sum { IfOk result (λ pair. Built self.old self.new 3 (pair.0 ∷ pair.1 ∷ [])
             (λ v. (lit_true v pair.0 ≡ differ (differ (lit_true v a) (lit_true v b)) (lit_true v c))
-                × (lit_true v pair.1 ≡ (if differ (lit_true v a) (lit_true v b) then lit_true v c else lit_true v a)))) }
+            × (lit_true v pair.1 ≡ (if differ (lit_true v a) (lit_true v b) then lit_true v c else lit_true v a)))) }
     {
         let either = self.gate_xor(a, b)?;
         let sum = self.gate_xor(either, c)?;

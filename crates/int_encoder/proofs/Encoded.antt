@@ -31,37 +31,38 @@ pub part_at : (n i : ℕ) (parts : List (List ℤ)) (a : List ℤ) → All (IsPa
 part_at n i parts a h w e = let P : List ℤ → Type 0 = λ u. IsPart n u in subst P (sym e) (h i a w)
 
 pub word_row : (s0 s1 : Cnf) (m : ℕ) (o : IntOp) (parts : List (List ℤ)) (a b word : List ℤ) (f : ℤ → ℤ → ℤ) → parts ≡ a ∷ b ∷ []
-  → ((p q : ℤ) → whole (f p q) ≡ int_value o p q) → IsWord s0 s1 m word (λ v. f (word_value v a) (word_value v b))
-  → m ≤ own_cost o (widest (a ∷ b ∷ [])) → IsRow s0 s1 o parts (made.Int word)
+    → ((p q : ℤ) → whole (f p q) ≡ int_value o p q) → IsWord s0 s1 m word (λ v. f (word_value v a) (word_value v b))
+    → m ≤ own_cost o (widest (a ∷ b ∷ [])) → IsRow s0 s1 o parts (made.Int word)
 word_row s0 s1 m o parts a b word f e same_value g le =
     built_as g.built (let P : List (List ℤ) → Type 0 = λ l. m ≤ own_cost o (widest l) in subst P (sym e) le) g.built.names
-      (λ v p. ap whole p ∙ same_value (word_value v a) (word_value v b) ∙ sym (ap (λ l. row_value o (part_values v l)) e))
+    (λ v p. ap whole p ∙ same_value (word_value v a) (word_value v b) ∙ sym (ap (λ l. row_value o (part_values v l)) e))
 
 pub flag_row : (s0 s1 : Cnf) (m : ℕ) (o : IntOp) (parts : List (List ℤ)) (a b : List ℤ) (lit : ℤ) (f : ℤ → ℤ → Bool) → parts ≡ a ∷ b ∷ []
-  → ((p q : ℤ) → truth (f p q) ≡ int_value o p q) → IsGate s0 s1 m lit (λ v. f (word_value v a) (word_value v b))
-  → m ≤ own_cost o (widest (a ∷ b ∷ [])) → IsRow s0 s1 o parts (made.Flag lit)
+    → ((p q : ℤ) → truth (f p q) ≡ int_value o p q) → IsGate s0 s1 m lit (λ v. f (word_value v a) (word_value v b))
+    → m ≤ own_cost o (widest (a ∷ b ∷ [])) → IsRow s0 s1 o parts (made.Flag lit)
 flag_row s0 s1 m o parts a b lit f e same_value g le =
     built_as g (let P : List (List ℤ) → Type 0 = λ l. m ≤ own_cost o (widest l) in subst P (sym e) le) g.names
-      (λ v p. ap truth p ∙ same_value (word_value v a) (word_value v b) ∙ sym (ap (λ l. row_value o (part_values v l)) e))
+    (λ v p. ap truth p ∙ same_value (word_value v a) (word_value v b) ∙ sym (ap (λ l. row_value o (part_values v l)) e))
 
 pub word_row_one : (s0 s1 : Cnf) (m : ℕ) (o : IntOp) (parts : List (List ℤ)) (a word : List ℤ) (f : ℤ → ℤ) → parts ≡ a ∷ []
-  → ((p : ℤ) → whole (f p) ≡ int_value o p p) → IsWord s0 s1 m word (λ v. f (word_value v a))
-  → m ≤ own_cost o (widest (a ∷ [])) → IsRow s0 s1 o parts (made.Int word)
+    → ((p : ℤ) → whole (f p) ≡ int_value o p p) → IsWord s0 s1 m word (λ v. f (word_value v a))
+    → m ≤ own_cost o (widest (a ∷ [])) → IsRow s0 s1 o parts (made.Int word)
 word_row_one s0 s1 m o parts a word f e same_value g le =
     built_as g.built (let P : List (List ℤ) → Type 0 = λ l. m ≤ own_cost o (widest l) in subst P (sym e) le) g.built.names
-      (λ v p. ap whole p ∙ same_value (word_value v a) ∙ sym (ap (λ l. row_value o (part_values v l)) e))
+    (λ v p. ap whole p ∙ same_value (word_value v a) ∙ sym (ap (λ l. row_value o (part_values v l)) e))
 
 pub flag_row_one : (s0 s1 : Cnf) (m : ℕ) (o : IntOp) (parts : List (List ℤ)) (a : List ℤ) (lit : ℤ) (f : ℤ → Bool) → parts ≡ a ∷ []
-  → ((p : ℤ) → truth (f p) ≡ int_value o p p) → IsGate s0 s1 m lit (λ v. f (word_value v a))
-  → m ≤ own_cost o (widest (a ∷ [])) → IsRow s0 s1 o parts (made.Flag lit)
+    → ((p : ℤ) → truth (f p) ≡ int_value o p p) → IsGate s0 s1 m lit (λ v. f (word_value v a))
+    → m ≤ own_cost o (widest (a ∷ [])) → IsRow s0 s1 o parts (made.Flag lit)
 flag_row_one s0 s1 m o parts a lit f e same_value g le =
     built_as g (let P : List (List ℤ) → Type 0 = λ l. m ≤ own_cost o (widest l) in subst P (sym e) le) g.names
-      (λ v p. ap truth p ∙ same_value (word_value v a) ∙ sym (ap (λ l. row_value o (part_values v l)) e))
+    (λ v p. ap truth p ∙ same_value (word_value v a) ∙ sym (ap (λ l. row_value o (part_values v l)) e))
 
 pub eq_same : (m n : ℤ) → int_eq m n ≡ same m n
-eq_same m n = same_from_decides (int_eq m n) (same m n) (Decides-int_eq m n)
-    ( (λ h. omega (arith, ints, (le_decides m n).0 (and_left _ _ h), (le_decides n m).0 (and_right (int_le m n) _ h)))
-    , (λ e. rw ((le_decides m n).1 (omega (arith, ints, e)), (le_decides n m).1 (omega (arith, ints, e))) refl) )
+eq_same m n = same_from_decides (int_eq m n) (same m n) (Decides-int_eq m n) (
+  (λ h. omega (arith, ints, (le_decides m n).0 (and_left _ _ h), (le_decides n m).0 (and_right (int_le m n) _ h))),
+  (λ e. rw ((le_decides m n).1 (omega (arith, ints, e)), (le_decides n m).1 (omega (arith, ints, e))) refl),
+)
 
 square : (a b w : ℕ) → a ≤ w → b ≤ w → a * b ≤ w * w
 square a b w h k = mul-le-mul h k

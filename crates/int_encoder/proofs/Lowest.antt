@@ -39,37 +39,37 @@ same_length v a b ha hb = length-map (low_bits a) (lit_true v) ∙ low_length a 
 
 module _ (f : Bool → Bool → Bool) (g : ℕ → ℕ → ℕ) (zipped : (xs ys : List Bool) → length xs ≡ length ys → nat_of (zip_bits f xs ys) ≡ g (nat_of xs) (nat_of ys)) where
   joined_value : (v : Values) (a b word : List ℤ) → 0 < length a → 0 < length b → length word ≡ 32 → bits v word ≡ zip_bits f (bits v (low_bits a)) (bits v (low_bits b))
-    → word_value v word ≡ bitwise g (Some (word_value v a)) (Some (word_value v b))
+      → word_value v word ≡ bitwise g (Some (word_value v a)) (Some (word_value v b))
   joined_value v a b word ha hb l e =
       signed_word (bits v word) (length-map word (lit_true v) ∙ l)
       ∙ ap signed (ap nat_of e ∙ zipped (bits v (low_bits a)) (bits v (low_bits b)) (same_length v a b ha hb)
-          ∙ sym (ap (λ n. g n (to_uint32 (Some (word_value v b)))) (low_value v a ha) ∙ ap (g (nat_of (bits v (low_bits a)))) (low_value v b hb)))
+      ∙ sym (ap (λ n. g n (to_uint32 (Some (word_value v b)))) (low_value v a ha) ∙ ap (g (nat_of (bits v (low_bits a)))) (low_value v b hb)))
 
   joined_word : (s0 s1 : Cnf) (a b word : List ℤ) → 0 < length a → 0 < length b → length word ≡ 32
-    → Built s0 s1 32 word (λ v. bits v word ≡ zip_bits f (bits v (low_bits a)) (bits v (low_bits b)))
-    → IsWord s0 s1 32 word (λ v. bitwise g (Some (word_value v a)) (Some (word_value v b)))
+      → Built s0 s1 32 word (λ v. bits v word ≡ zip_bits f (bits v (low_bits a)) (bits v (low_bits b)))
+      → IsWord s0 s1 32 word (λ v. bitwise g (Some (word_value v a)) (Some (word_value v b)))
   joined_word s0 s1 a b word ha hb l h = record {
     some = omega (arith, l);
     built = built_as h (omega arith) h.names (λ v p. joined_value v a b word ha hb l p);
   }
 
 pub and_word : (s0 s1 : Cnf) (a b word : List ℤ) → 0 < length a → 0 < length b → length word ≡ 32
-  → Built s0 s1 32 word (λ v. bits v word ≡ zip_bits (λ x y. x && y) (bits v (low_bits a)) (bits v (low_bits b)))
-  → IsWord s0 s1 32 word (λ v. bits_and (word_value v a) (word_value v b))
+    → Built s0 s1 32 word (λ v. bits v word ≡ zip_bits (λ x y. x && y) (bits v (low_bits a)) (bits v (low_bits b)))
+    → IsWord s0 s1 32 word (λ v. bits_and (word_value v a) (word_value v b))
 and_word s0 s1 a b word ha hb l h = joined_word (λ x y. x && y) bit_and zipped_and s0 s1 a b word ha hb l h
 
 pub or_word : (s0 s1 : Cnf) (a b word : List ℤ) → 0 < length a → 0 < length b → length word ≡ 32
-  → Built s0 s1 32 word (λ v. bits v word ≡ zip_bits (λ x y. x || y) (bits v (low_bits a)) (bits v (low_bits b)))
-  → IsWord s0 s1 32 word (λ v. bits_or (word_value v a) (word_value v b))
+    → Built s0 s1 32 word (λ v. bits v word ≡ zip_bits (λ x y. x || y) (bits v (low_bits a)) (bits v (low_bits b)))
+    → IsWord s0 s1 32 word (λ v. bits_or (word_value v a) (word_value v b))
 or_word s0 s1 a b word ha hb l h = joined_word (λ x y. x || y) bit_or zipped_or s0 s1 a b word ha hb l h
 
 pub xor_word : (s0 s1 : Cnf) (a b word : List ℤ) → 0 < length a → 0 < length b → length word ≡ 32
-  → Built s0 s1 32 word (λ v. bits v word ≡ zip_bits differ (bits v (low_bits a)) (bits v (low_bits b)))
-  → IsWord s0 s1 32 word (λ v. bits_xor (word_value v a) (word_value v b))
+    → Built s0 s1 32 word (λ v. bits v word ≡ zip_bits differ (bits v (low_bits a)) (bits v (low_bits b)))
+    → IsWord s0 s1 32 word (λ v. bits_xor (word_value v a) (word_value v b))
 xor_word s0 s1 a b word ha hb l h = joined_word differ bit_xor zipped_xor s0 s1 a b word ha hb l h
 
 pub joined_lowest : (s0 s1 : Cnf) (m : ℕ) (f : Values → Bool → Bool → Bool) (a b left right word : List ℤ) → left ≡ low_bits a → right ≡ low_bits b → m ≤ 32
-  → Built s0 s1 m word (λ v. bits v word ≡ zip_bits (f v) (bits v left) (bits v right))
-  → Built s0 s1 32 word (λ v. bits v word ≡ zip_bits (f v) (bits v (low_bits a)) (bits v (low_bits b)))
+    → Built s0 s1 m word (λ v. bits v word ≡ zip_bits (f v) (bits v left) (bits v right))
+    → Built s0 s1 32 word (λ v. bits v word ≡ zip_bits (f v) (bits v (low_bits a)) (bits v (low_bits b)))
 joined_lowest s0 s1 m f a b left right word ea eb le h =
     built_as h le h.names (λ v p. p ∙ ap (λ l. zip_bits (f v) (bits v l) (bits v right)) ea ∙ ap (λ l. zip_bits (f v) (bits v (low_bits a)) (bits v l)) eb)

@@ -138,4 +138,3 @@ uint_is (pos m) n (pos h) s e = omega (arith, s, pos_same m (n + 4294967296 * h)
 uint_is (pos m) n (negsuc h) s e = absurd (omega (arith, ints, s, e ∙ ap (λ y. pos n +ℤ y) (pos-*ℤ-negsuc 4294967296 h)))
 uint_is (negsuc m) n (pos h) s e = absurd (omega (arith, ints, s, e ∙ ap (λ y. pos n +ℤ y) (pos-*ℤ-pos 4294967296 h)))
 uint_is (negsuc m) n (negsuc h) s e = omega (arith, ints, s, e ∙ ap (λ y. pos n +ℤ y) (pos-*ℤ-negsuc 4294967296 h))
-

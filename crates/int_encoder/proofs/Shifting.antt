@@ -44,8 +44,8 @@ halved_is k (negsuc m) (negsuc h) n p ep l e =
 pub upper_value : (k : ℕ) (xs : List Bool) → k < length xs → int_of (drop k xs) ≡ halved (int_of xs) k
 upper_value k xs h =
     halved_is k (int_of xs) (int_of (drop k xs)) (nat_of (take k xs)) (2 ^ k) refl
-      (let e : length (take k xs) ≡ k = length-take k xs ∙ (omega (arith, h)) in let P : ℕ → Type 0 = λ m. nat_of (take k xs) < 2 ^ m in subst P e (nat_below (take k xs)))
-      (split_word k xs h)
+    (let e : length (take k xs) ≡ k = length-take k xs ∙ (omega (arith, h)) in let P : ℕ → Type 0 = λ m. nat_of (take k xs) < 2 ^ m in subst P e (nat_below (take k xs)))
+    (split_word k xs h)
 
 bits-drop : (v : Values) (k : ℕ) (w : List ℤ) → bits v (drop k w) ≡ drop k (bits v w)
 bits-drop v zero w = refl
@@ -72,7 +72,7 @@ five_bits : (a b c d e : Bool) → ((((0 + 1 * nat_bit a) + 2 * nat_bit b) + 4 *
 five_bits a b c d e = omega arith
 
 take_five : (v : Values) (w : List ℤ) (a b c d e : ℤ) → 5 ≤ length w → a ≡ get_or w 0 a → b ≡ get_or w 1 b → c ≡ get_or w 2 c → d ≡ get_or w 3 d → e ≡ get_or w 4 e
-  → nat_of (lit_true v a ∷ lit_true v b ∷ lit_true v c ∷ lit_true v d ∷ lit_true v e ∷ []) ≡ shift_count_of v w
+    → nat_of (lit_true v a ∷ lit_true v b ∷ lit_true v c ∷ lit_true v d ∷ lit_true v e ∷ []) ≡ shift_count_of v w
 take_five v [] a b c d e h ea eb ec ed ee = absurd (omega (arith, h))
 take_five v (p ∷ []) a b c d e h ea eb ec ed ee = absurd (omega (arith, h))
 take_five v (p ∷ q ∷ []) a b c d e h ea eb ec ed ee = absurd (omega (arith, h))
@@ -81,10 +81,10 @@ take_five v (p ∷ q ∷ r ∷ s ∷ []) a b c d e h ea eb ec ed ee = absurd (om
 take_five v (p ∷ q ∷ r ∷ s ∷ t ∷ w) a b c d e h ea eb ec ed ee = rw (ea, eb, ec, ed, ee) refl
 
 pub halved_five : (v : Values) (count : List ℤ) (z y1 y2 y3 y4 y5 : ℤ) (a b c d e : ℤ) → 5 ≤ length count
-  → a ≡ get_or count 0 a → b ≡ get_or count 1 b → c ≡ get_or count 2 c → d ≡ get_or count 3 d → e ≡ get_or count 4 e
-  → y1 ≡ (if lit_true v a then halved z 1 else z) → y2 ≡ (if lit_true v b then halved y1 2 else y1) → y3 ≡ (if lit_true v c then halved y2 4 else y2)
-  → y4 ≡ (if lit_true v d then halved y3 8 else y3) → y5 ≡ (if lit_true v e then halved y4 16 else y4)
-  → y5 ≡ halved z (shift_count_of v count)
+    → a ≡ get_or count 0 a → b ≡ get_or count 1 b → c ≡ get_or count 2 c → d ≡ get_or count 3 d → e ≡ get_or count 4 e
+    → y1 ≡ (if lit_true v a then halved z 1 else z) → y2 ≡ (if lit_true v b then halved y1 2 else y1) → y3 ≡ (if lit_true v c then halved y2 4 else y2)
+    → y4 ≡ (if lit_true v d then halved y3 8 else y3) → y5 ≡ (if lit_true v e then halved y4 16 else y4)
+    → y5 ≡ halved z (shift_count_of v count)
 halved_five v count z y1 y2 y3 y4 y5 a b c d e h ea eb ec ed ee e1 e2 e3 e4 e5 =
     let s1 = e1 ∙ halved_stage (lit_true v a) z z 0 1 (sym (halved_none z)) in
     let s2 = e2 ∙ halved_stage (lit_true v b) z y1 _ 2 s1 in
@@ -118,11 +118,11 @@ count_is v b h =
     ap (λ n. n % 32) (low_value v b h) ∙ five_of (nat_of xs) (nat_of (take 5 xs)) (nat_of (drop 5 xs)) (nat_split 5 xs (omega (arith, l))) (taken_below 5 xs (omega (arith, l)))
 
 pub right_value : (v : Values) (a b word : List ℤ) → 0 < length a → 0 < length b → word_value v word ≡ halved (word_value v (low_bits a)) (shift_count_of v (low_bits b))
-  → word_value v word ≡ bits_right (word_value v a) (word_value v b)
+    → word_value v word ≡ bits_right (word_value v a) (word_value v b)
 right_value v a b word ha hb e =
     e ∙ ap (λ z. halved z (shift_count_of v (low_bits b)))
-          (signed_word (bits v (low_bits a)) (length-map (low_bits a) (lit_true v) ∙ low_length a ha) ∙ ap signed (sym (low_value v a ha)))
-      ∙ ap (halved (to_int32 (Some (word_value v a)))) (sym (count_is v b hb))
+    (signed_word (bits v (low_bits a)) (length-map (low_bits a) (lit_true v) ∙ low_length a ha) ∙ ap signed (sym (low_value v a ha)))
+    ∙ ap (halved (to_int32 (Some (word_value v a)))) (sym (count_is v b hb))
 
 whole_step : (x : Bool) (xs : List Bool) (n : ℕ) → 0 < length xs → int_of xs ≡ pos n → int_of (x ∷ xs) ≡ pos (nat_bit x + 2 * n)
 whole_step true xs n h e = int_of-more true xs h ∙ (omega (arith, ints, e))
@@ -134,13 +134,13 @@ whole_int [] = refl
 whole_int (x ∷ xs) = whole_step x (xs ++ false ∷ []) (nat_of xs) (omega (arith, length-append xs (false ∷ []))) (whole_int xs)
 
 pub right_zero_value : (v : Values) (a b whole sign word : List ℤ) (never : ℤ) → 0 < length a → 0 < length b → sign ≡ never ∷ [] → whole ≡ low_bits a ++ sign → lit_true v never ≡ false
-  → word_value v word ≡ halved (word_value v whole) (shift_count_of v (low_bits b))
-  → word_value v word ≡ bits_right_zero (word_value v a) (word_value v b)
+    → word_value v word ≡ halved (word_value v whole) (shift_count_of v (low_bits b))
+    → word_value v word ≡ bits_right_zero (word_value v a) (word_value v b)
 right_zero_value v a b whole sign word never ha hb es ew en e =
     e ∙ ap (λ z. halved z (shift_count_of v (low_bits b)))
-          (ap (word_value v) (ew ∙ ap (λ l. low_bits a ++ l) es) ∙ ap int_of (map-append (lit_true v) (low_bits a) (never ∷ []))
-           ∙ ap (λ x. int_of (bits v (low_bits a) ++ x ∷ [])) en ∙ whole_int (bits v (low_bits a)) ∙ ap pos (sym (low_value v a ha)))
-      ∙ ap (λ s. pos (to_uint32 (Some (word_value v a)) / 2 ^ s)) (sym (count_is v b hb))
+    (ap (word_value v) (ew ∙ ap (λ l. low_bits a ++ l) es) ∙ ap int_of (map-append (lit_true v) (low_bits a) (never ∷ []))
+    ∙ ap (λ x. int_of (bits v (low_bits a) ++ x ∷ [])) en ∙ whole_int (bits v (low_bits a)) ∙ ap pos (sym (low_value v a ha)))
+    ∙ ap (λ s. pos (to_uint32 (Some (word_value v a)) / 2 ^ s)) (sym (count_is v b hb))
 
 -- ---- to the left
 
@@ -173,7 +173,7 @@ zeros_bits v (suc k) zeros never h e en =
     ap (bits v) e ∙ bits-padded v (suc k - 1) (never ∷ []) ∙ ap (λ b. b ∷ replicate (suc k - 1) b) en ∙ ap (λ n. false ∷ replicate n false) (let f : suc k - 1 ≡ k = omega arith in f)
 
 moved_value : (v : Values) (a lower zeros moved : List ℤ) (by w : ℕ) (never : ℤ) → length a ≡ 32 → 0 < by → by < 32 → w ≡ length a → lower ≡ take (w - by) a
-  → zeros ≡ padded (by - 1) (never ∷ []) → moved ≡ zeros ++ lower → lit_true v never ≡ false → word_value v moved ≡ raised (nat_of (bits v a)) by
+    → zeros ≡ padded (by - 1) (never ∷ []) → moved ≡ zeros ++ lower → lit_true v never ≡ false → word_value v moved ≡ raised (nat_of (bits v a)) by
 moved_value v a lower zeros moved by w never la some few ew el ez em en =
     let xs = bits v a in
     let k : ℕ = w - by in
@@ -181,20 +181,20 @@ moved_value v a lower zeros moved by w never la some few ew el ez em en =
     let lk : k ≤ length xs = omega (arith, ew, la, lx) in
     let zb = zeros_bits v by zeros never some ez en in
     let mb : bits v moved ≡ replicate by false ++ take k xs =
-        ap (bits v) em ∙ map-append (lit_true v) zeros lower ∙ ap (λ l. l ++ bits v lower) zb ∙ ap (λ l. replicate by false ++ l) (ap (bits v) el ∙ bits-take v k a) in
+    ap (bits v) em ∙ map-append (lit_true v) zeros lower ∙ ap (λ l. l ++ bits v lower) zb ∙ ap (λ l. replicate by false ++ l) (ap (bits v) el ∙ bits-take v k a) in
     let lm : length (bits v moved) ≡ 32 =
-        ap length mb ∙ length-append (replicate by false) (take k xs) ∙ (omega (arith, length-replicate by false, length-take k xs, lx, ew, la, few)) in
+    ap length mb ∙ length-append (replicate by false) (take k xs) ∙ (omega (arith, length-replicate by false, length-take k xs, lx, ew, la, few)) in
     let pq : 2 ^ k * 2 ^ by ≡ 4294967296 = sym (pow-add 2 k by) ∙ ap (λ n. 2 ^ n) (let f : k + by ≡ 32 = omega (arith, ew, la, few) in f) in
     signed_word (bits v moved) lm
     ∙ ap signed (ap nat_of mb ∙ zeros_below by (take k xs)
-        ∙ sym (raised_mod (nat_of xs) (nat_of (take k xs)) (2 ^ k) (2 ^ by) (nat_of (drop k xs)) 4294967296 pq (taken_below k xs lk) (pow_pos by) (nat_split k xs lk)))
+    ∙ sym (raised_mod (nat_of xs) (nat_of (take k xs)) (2 ^ k) (2 ^ by) (nat_of (drop k xs)) 4294967296 pq (taken_below k xs lk) (pow_pos by) (nat_split k xs lk)))
 
 pub raised_word : (v : Values) (a lower zeros moved word : List ℤ) (by w : ℕ) (when never : ℤ) → length a ≡ 32 → 0 < by → by < 32 → w ≡ length a → lower ≡ take (w - by) a
-  → zeros ≡ padded (by - 1) (never ∷ []) → moved ≡ zeros ++ lower
-  → word_value v word ≡ (if lit_true v when then word_value v moved else word_value v a) → IsRaised a by when never word v
+    → zeros ≡ padded (by - 1) (never ∷ []) → moved ≡ zeros ++ lower
+    → word_value v word ≡ (if lit_true v when then word_value v moved else word_value v a) → IsRaised a by when never word v
 raised_word v a lower zeros moved word by w when never la some few ew el ez em p en =
     p ∙ ap (λ z. if lit_true v when then z else word_value v a) (moved_value v a lower zeros moved by w never la some few ew el ez em en)
-      ∙ ap (λ z. if lit_true v when then raised (nat_of (bits v a)) by else z) (signed_word (bits v a) (length-map a (lit_true v) ∙ la))
+    ∙ ap (λ z. if lit_true v when then raised (nat_of (bits v a)) by else z) (signed_word (bits v a) (length-map a (lit_true v) ∙ la))
 
 word_below : (v : Values) (a : List ℤ) → length a ≡ 32 → nat_of (bits v a) < 4294967296
 word_below v a la = let P : ℕ → Type 0 = λ m. nat_of (bits v a) < 2 ^ m in subst P (length-map a (lit_true v) ∙ la) (nat_below (bits v a))
@@ -209,12 +209,12 @@ if_below false m n h g = g
 
 -- one stage on the numbers without sign
 stage_nat : (v : Values) (a word : List ℤ) (by : ℕ) (when never : ℤ) → length a ≡ 32 → length word ≡ 32 → IsRaised a by when never word v → lit_true v never ≡ false
-  → nat_of (bits v word) ≡ (if lit_true v when then (nat_of (bits v a) * 2 ^ by) % 4294967296 else nat_of (bits v a))
+    → nat_of (bits v word) ≡ (if lit_true v when then (nat_of (bits v a) * 2 ^ by) % 4294967296 else nat_of (bits v a))
 stage_nat v a word by when never la lw r en =
     let n = nat_of (bits v a) in
     let m = (n * 2 ^ by) % 4294967296 in
     signed_same (nat_of (bits v word)) (if lit_true v when then m else n) (word_below v word lw) (if_below (lit_true v when) m n (mod_less (n * 2 ^ by)) (word_below v a la))
-      (sym (signed_word (bits v word) (length-map word (lit_true v) ∙ lw)) ∙ r en ∙ if_signed (lit_true v when) m n)
+    (sym (signed_word (bits v word) (length-map word (lit_true v) ∙ lw)) ∙ r en ∙ if_signed (lit_true v when) m n)
 
 product_of : (u p q : ℕ) → (u * p) * q ≡ u * (p * q)
 product_of u p q = grind arith
@@ -229,10 +229,10 @@ not_raised : (u : ℕ) → u < 4294967296 → u ≡ (u * 2 ^ 0) % 4294967296
 not_raised u h = omega (arith, h)
 
 pub left_value : (v : Values) (a b low count w1 w2 w3 w4 w5 : List ℤ) (p q r s t never : ℤ) → 0 < length a → 0 < length b → low ≡ low_bits a → count ≡ low_bits b
-  → p ≡ get_or count 0 p → q ≡ get_or count 1 q → r ≡ get_or count 2 r → s ≡ get_or count 3 s → t ≡ get_or count 4 t
-  → length low ≡ 32 → length w1 ≡ 32 → length w2 ≡ 32 → length w3 ≡ 32 → length w4 ≡ 32 → length w5 ≡ 32 → lit_true v never ≡ false
-  → IsRaised low 1 p never w1 v → IsRaised w1 2 q never w2 v → IsRaised w2 4 r never w3 v → IsRaised w3 8 s never w4 v → IsRaised w4 16 t never w5 v
-  → word_value v w5 ≡ bits_left (word_value v a) (word_value v b)
+    → p ≡ get_or count 0 p → q ≡ get_or count 1 q → r ≡ get_or count 2 r → s ≡ get_or count 3 s → t ≡ get_or count 4 t
+    → length low ≡ 32 → length w1 ≡ 32 → length w2 ≡ 32 → length w3 ≡ 32 → length w4 ≡ 32 → length w5 ≡ 32 → lit_true v never ≡ false
+    → IsRaised low 1 p never w1 v → IsRaised w1 2 q never w2 v → IsRaised w2 4 r never w3 v → IsRaised w3 8 s never w4 v → IsRaised w4 16 t never w5 v
+    → word_value v w5 ≡ bits_left (word_value v a) (word_value v b)
 left_value v a b low count w1 w2 w3 w4 w5 p q r s t never ha hb el ec ep eq er es et l0 l1 l2 l3 l4 l5 en r1 r2 r3 r4 r5 =
     let u = nat_of (bits v low) in
     let n1 = raise_stage (lit_true v p) u u _ 0 1 (not_raised u (word_below v low l0)) (stage_nat v low w1 1 p never l0 l1 r1 en) in
@@ -245,5 +245,5 @@ left_value v a b low count w1 w2 w3 w4 w5 p q r s t never ha hb el ec ep eq er e
     let ua : u ≡ to_uint32 (Some (word_value v a)) = ap (λ l. nat_of (bits v l)) el ∙ sym (low_value v a ha) in
     signed_word (bits v w5) (length-map w5 (lit_true v) ∙ l5)
     ∙ ap signed (n5
-        ∙ ap (λ x. (u * 2 ^ x) % 4294967296) (five_bits (lit_true v p) (lit_true v q) (lit_true v r) (lit_true v s) (lit_true v t) ∙ take_five v count p q r s t (omega (arith, lc)) ep eq er es et ∙ k)
-        ∙ ap (λ x. (x * 2 ^ shift_count (Some (word_value v b))) % 4294967296) ua)
+    ∙ ap (λ x. (u * 2 ^ x) % 4294967296) (five_bits (lit_true v p) (lit_true v q) (lit_true v r) (lit_true v s) (lit_true v t) ∙ take_five v count p q r s t (omega (arith, lc)) ep eq er es et ∙ k)
+    ∙ ap (λ x. (x * 2 ^ shift_count (Some (word_value v b))) % 4294967296) ua)

@@ -29,4 +29,4 @@ raised n by = signed ((n * 2 ^ by) % all_bits)
 -- 32 bits were moved up where the literal holds
 abbrev pub IsRaised : List ℤ → ℕ → ℤ → ℤ → List ℤ → Values → Type 0
 IsRaised a by when never word v = lit_true v never ≡ false
-  → word_value v word ≡ (if lit_true v when then raised (nat_of (bits v a)) by else signed (nat_of (bits v a)))
+    → word_value v word ≡ (if lit_true v when then raised (nat_of (bits v a)) by else signed (nat_of (bits v a)))

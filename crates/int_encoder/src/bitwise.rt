@@ -27,7 +27,12 @@ pub fn lowest(alloc: Global, a: &BitInt) -> Result<BitInt, NoMemory>
 
 /// A gate for each pair of the lowest 32 bits.
 #[tactic(auto, using(crate::proofs::Standing::standing))]
-pub fn join_lowest(builder: &mut Builder, gate: &BitGate, a: &BitInt, b: &BitInt) -> Result<BitInt, NoMemory>
+pub fn join_lowest(
+    builder: &mut Builder,
+    gate: &BitGate,
+    a: &BitInt,
+    b: &BitInt,
+) -> Result<BitInt, NoMemory>
     requires space { builder.old.variables + 32 ≤ 2 ^ 62 }
     requires gate { IsNamed builder.old.variables gate.now }
     requires a { All (Names builder.old.variables) a.now }

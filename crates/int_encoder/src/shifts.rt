@@ -94,7 +94,13 @@ pub fn shift_right_zero(builder: &mut Builder, a: &BitInt, b: &BitInt) -> Result
 
 /// 32 bits moved up so many places where the literal holds: `never` stands in the new ones.
 #[tactic(auto, using(crate::proofs::Standing::standing))]
-fn raised_where(builder: &mut Builder, a: &BitInt, by: usize, when: Lit, never: Lit) -> Result<BitInt, NoMemory>
+fn raised_where(
+    builder: &mut Builder,
+    a: &BitInt,
+    by: usize,
+    when: Lit,
+    never: Lit,
+) -> Result<BitInt, NoMemory>
     requires space { builder.old.variables + 32 ≤ 2 ^ 62 }
     requires a { All (Names builder.old.variables) a.now }
     requires width { length a.now ≡ 32 }

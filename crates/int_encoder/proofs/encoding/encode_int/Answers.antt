@@ -166,4 +166,3 @@ returns-in-Ushr-clause-row c =
     let n : length parts ≡ 2 = c.requires.count ∙ ap part_count c.in-Ushr.is in
     let e : parts ≡ a ∷ b ∷ [] = two_of parts a b n c.index-parts-0.is c.index-parts-parts.is in
     rw c.in-Ushr.is (word_row _ _ _ op.Ushr parts a b _ bits_right_zero e (λ p q. refl) c.in_ok-word-in-Ushr.ensures.word (omega arith))
-

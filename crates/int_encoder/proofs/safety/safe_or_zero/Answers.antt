@@ -18,5 +18,5 @@ returns-then-width-lt-SAFE_WIDTH-clause-word c =
     record {
       some = omega (arith, c.in_ok-same.ensures.width, c.requires.some);
       built = built_as (built_none c.args.builder.now same (λ v. word_value v same ≡ word_value v a) names (c.in_ok-same.ensures.value)) (omega arith) names
-        (λ v p. small_word (length a) (word_value v a) (word_value v same) (omega arith) (c.width.ensures.range v) p);
+          (λ v p. small_word (length a) (word_value v a) (word_value v same) (omega arith) (c.width.ensures.range v) p);
     }

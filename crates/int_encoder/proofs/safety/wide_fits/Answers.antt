@@ -22,7 +22,7 @@ returns-clause-gate c =
     let g3 = c.in_ok-same_negative.ensures.gate in
     let g4 = c.in_ok-both.ensures.gate in
     built_both (built_then (built_then (built_then g0 g1) g2) g3) g4
-      (omega (arith, c.in_ok-low.ensures.width, c.in_ok-zero.ensures.width, c.in_ok-negative.ensures.width, c.in_ok-low_negative.ensures.width, c.requires.wide)) g4.names
-      (λ v p q. fits_word v c.args.a.now c.in_ok-low.low c.in_ok-zero.zero c.in_ok-negative.negative c.in_ok-low_negative.low_negative c.in_ok-same.same c.in_ok-same_negative.same_negative c.in_ok-both.both c.in_ok-never.never
-        c.in_ok-zero.ensures.bits p.0.0.1 p.0.0.0 p.0.1 p.1 q
-        (c.in_ok-low.ensures.value v) (c.in_ok-low.ensures.range v) (c.in_ok-low_negative.ensures.value v) (c.in_ok-low_negative.ensures.range v))
+    (omega (arith, c.in_ok-low.ensures.width, c.in_ok-zero.ensures.width, c.in_ok-negative.ensures.width, c.in_ok-low_negative.ensures.width, c.requires.wide)) g4.names
+    (λ v p q. fits_word v c.args.a.now c.in_ok-low.low c.in_ok-zero.zero c.in_ok-negative.negative c.in_ok-low_negative.low_negative c.in_ok-same.same c.in_ok-same_negative.same_negative c.in_ok-both.both c.in_ok-never.never
+    c.in_ok-zero.ensures.bits p.0.0.1 p.0.0.0 p.0.1 p.1 q
+    (c.in_ok-low.ensures.value v) (c.in_ok-low.ensures.range v) (c.in_ok-low_negative.ensures.value v) (c.in_ok-low_negative.ensures.range v))

@@ -26,6 +26,6 @@ returns-clause-word c =
     record {
       some = g2.some;
       built = built_both (built_then g0 g1) g2.built (omega (arith, c.in_ok-low.ensures.width, c.in_ok-zero.ensures.width, c.requires.wide)) g2.built.names
-        (λ v p q. safe_word v c.args.a.now c.in_ok-low.low c.in_ok-zero.zero c.in_ok-word.word c.in_ok-is_safe.is_safe c.in_ok-never.never
+          (λ v p q. safe_word v c.args.a.now c.in_ok-low.low c.in_ok-zero.zero c.in_ok-word.word c.in_ok-is_safe.is_safe c.in_ok-never.never
           c.in_ok-zero.ensures.bits p.1 (c.in_ok-low.ensures.value v) p.0 q);
     }

@@ -23,5 +23,5 @@ returns-clause-word c =
     record {
       some = g.some;
       built = built_as g.built (omega (arith, l)) g.built.names
-        (λ v p. p ∙ ap (λ z. if lit_true v c.args.when then z else word_value v a) (ap (word_value v) c.in_ok-upper.ensures.bits ∙ upper_word v c.args.by a c.requires.fewer));
+          (λ v p. p ∙ ap (λ z. if lit_true v c.args.when then z else word_value v a) (ap (word_value v) c.in_ok-upper.ensures.bits ∙ upper_word v c.args.by a c.requires.fewer));
     }

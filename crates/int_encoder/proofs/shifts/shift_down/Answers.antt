@@ -49,8 +49,8 @@ returns-clause-word c =
     record {
       some = c.in_ok-five.ensures.word.some;
       built = built_both (built_then (built_then (built_then g1 g2) g3) g4) g5
-        (omega (arith, c.in_ok-one.ensures.width, c.in_ok-two.ensures.width, c.in_ok-three.ensures.width, c.in_ok-four.ensures.width)) g5.names
-        (λ v p q. halved_five v c.args.count.now (word_value v c.args.a.now) (word_value v c.in_ok-one.one) (word_value v c.in_ok-two.two) (word_value v c.in_ok-three.three) (word_value v c.in_ok-four.four) (word_value v c.in_ok-five.five)
+          (omega (arith, c.in_ok-one.ensures.width, c.in_ok-two.ensures.width, c.in_ok-three.ensures.width, c.in_ok-four.ensures.width)) g5.names
+          (λ v p q. halved_five v c.args.count.now (word_value v c.args.a.now) (word_value v c.in_ok-one.one) (word_value v c.in_ok-two.two) (word_value v c.in_ok-three.three) (word_value v c.in_ok-four.four) (word_value v c.in_ok-five.five)
           c.bit.result c.bit-2.result c.bit-3.result c.bit-4.result c.bit-5.result c.requires.enough c.bit.ensures c.bit-2.ensures c.bit-3.ensures c.bit-4.ensures c.bit-5.ensures
           p.0.0.0 p.0.0.1 p.0.1 p.1 q);
     }

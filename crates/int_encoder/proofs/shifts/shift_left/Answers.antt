@@ -81,7 +81,7 @@ returns-clause-word c =
     record {
       some = omega (arith, c.in_ok-five.ensures.width);
       built = built_both (built_then (built_then (built_then (built_then g0 g1) g2) g3) g4) g5 (omega arith) g5.names
-        (λ v p q. left_value v c.args.a.now c.args.b.now c.in_ok-low.low c.in_ok-count.count c.in_ok-one.one c.in_ok-two.two c.in_ok-three.three c.in_ok-four.four c.in_ok-five.five
+          (λ v p q. left_value v c.args.a.now c.args.b.now c.in_ok-low.low c.in_ok-count.count c.in_ok-one.one c.in_ok-two.two c.in_ok-three.three c.in_ok-four.four c.in_ok-five.five
           c.bit.result c.bit-2.result c.bit-3.result c.bit-4.result c.bit-5.result c.in_ok-never.never c.requires.some_a c.requires.some_b c.in_ok-low.ensures.bits c.in_ok-count.ensures.bits
           c.bit.ensures c.bit-2.ensures c.bit-3.ensures c.bit-4.ensures c.bit-5.ensures
           c.in_ok-low.ensures.width c.in_ok-one.ensures.width c.in_ok-two.ensures.width c.in_ok-three.ensures.width c.in_ok-four.ensures.width c.in_ok-five.ensures.width

@@ -24,5 +24,5 @@ returns-clause-word c =
     record {
       some = g.some;
       built = built_as g.built (omega (arith, c.in_ok-low.ensures.width)) g.built.names
-        (λ v p. right_value v c.args.a.now c.args.b.now c.in_ok-word.word c.requires.some_a c.requires.some_b (rw (c.in_ok-low.ensures.bits, c.in_ok-count.ensures.bits) at p));
+          (λ v p. right_value v c.args.a.now c.args.b.now c.in_ok-word.word c.requires.some_a c.requires.some_b (rw (c.in_ok-low.ensures.bits, c.in_ok-count.ensures.bits) at p));
     }

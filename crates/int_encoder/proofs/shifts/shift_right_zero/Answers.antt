@@ -18,8 +18,8 @@ shift_down-requires-clause-a c =
     let g = c.in_ok-never.ensures.gate in
     let P : List ℤ → Type 0 = λ l. All (Names n) l in
     subst P (sym c.in_ok-whole.ensures.bits) (All-append (Names n) c.in_ok-low.low c.in_ok-sign.sign
-      (all_later c.args.builder.now.variables n c.in_ok-low.low (subst (λ l. All (Names c.args.builder.now.variables) l) (sym c.in_ok-low.ensures.bits) (low_names _ c.args.a.now c.requires.a)) g.variables)
-      (subst P (sym c.in_ok-sign.ensures.bits) (padded_names n 0 (c.in_ok-never.never ∷ []) g.names)))
+    (all_later c.args.builder.now.variables n c.in_ok-low.low (subst (λ l. All (Names c.args.builder.now.variables) l) (sym c.in_ok-low.ensures.bits) (low_names _ c.args.a.now c.requires.a)) g.variables)
+    (subst P (sym c.in_ok-sign.ensures.bits) (padded_names n 0 (c.in_ok-never.never ∷ []) g.names)))
 
 pub shift_down-requires-clause-count : goal.shift_down-requires-clause-count
 shift_down-requires-clause-count c =
@@ -35,6 +35,6 @@ returns-clause-word c =
     record {
       some = g.some;
       built = built_both h g.built (omega (arith, l)) g.built.names
-        (λ v p q. right_zero_value v c.args.a.now c.args.b.now c.in_ok-whole.whole c.in_ok-sign.sign c.in_ok-word.word c.in_ok-never.never c.requires.some_a c.requires.some_b
+          (λ v p q. right_zero_value v c.args.a.now c.args.b.now c.in_ok-whole.whole c.in_ok-sign.sign c.in_ok-word.word c.in_ok-never.never c.requires.some_a c.requires.some_b
           c.in_ok-sign.ensures.bits (c.in_ok-whole.ensures.bits ∙ ap (λ l. l ++ c.in_ok-sign.sign) c.in_ok-low.ensures.bits) p (rw c.in_ok-count.ensures.bits at q));
     }

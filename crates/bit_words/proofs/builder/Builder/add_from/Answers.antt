@@ -18,4 +18,4 @@ returns-clause-word c =
     let ea : c.max-width.result + 1 - length a ≡ w + 1 - length a = omega arith in
     let eb : c.max-width.result + 1 - length b ≡ w + 1 - length b = omega arith in
     sum_word _ _ a b _ _ _ _ w (omega arith) (c.in_ok-left.ensures.bits ∙ ap (λ n. padded n a) ea) (c.in_ok-right.ensures.bits ∙ ap (λ n. padded n b) eb)
-      c.in_ok-sum.ensures.sum c.requires.some_a c.requires.some_b
+    c.in_ok-sum.ensures.sum c.requires.some_a c.requires.some_b

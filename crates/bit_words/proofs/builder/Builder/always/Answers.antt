@@ -9,4 +9,4 @@ returns-clause-gate c =
     let g = c.in_ok-never.ensures.gate in
     let e = c.opposite.ensures in
     built_as g (omega arith) (rw e (named_one _ _ (opposite_names _ _ (name_of g))))
-      (λ v h. ap (lit_true v) e ∙ opposite_value _ _ v (name_of g) ∙ ap not h)
+    (λ v h. ap (lit_true v) e ∙ opposite_value _ _ v (name_of g) ∙ ap not h)

@@ -12,5 +12,5 @@ invariant-steps l = record {
   bits : All (Names l.self.variables) l.bits.items;
   rest : All (Names l.self.variables) l.rest;
   width : length l.rest ≡ length l.divisor;
-  length : length l.bits.items ≡ l.i
+  length : length l.bits.items ≡ l.i;
 }

@@ -23,5 +23,5 @@ returns-clause-divided c =
     let e2 : 4 * length c.in_ok-divisor.divisor + 8 ≡ 4 * length b + 12 = omega (arith, c.in_ok-divisor.ensures.width) in
     let e = ap (λ n. n * (4 * length c.in_ok-divisor.divisor + 8)) e1 ∙ ap (λ n. length a * n) e2 in
     built_both (built_then g h) k (omega (arith, e, c.in_ok-top.ensures.width, c.in_ok-divisor.ensures.width)) (named_none _)
-      (λ v p q n some. magnitudes v a b c.in_ok-top.top c.in_ok-divisor.divisor c.in_ok-pair.pair.0 c.in_ok-pair.pair.1 c.sign.result c.sign-2.result
-        c.requires.some_a c.requires.some_b c.sign.ensures c.sign-2.ensures (p.0 n) (p.1 n) (q n) some)
+    (λ v p q n some. magnitudes v a b c.in_ok-top.top c.in_ok-divisor.divisor c.in_ok-pair.pair.0 c.in_ok-pair.pair.1 c.sign.result c.sign-2.result
+    c.requires.some_a c.requires.some_b c.sign.ensures c.sign-2.ensures (p.0 n) (p.1 n) (q n) some)

@@ -26,5 +26,5 @@ returns-clause-step c =
     let P : ℤ → Type 0 = λ z. All (Names n) (z ∷ c.in_ok-rest.rest) in
     let Q : List ℤ → Type 0 = λ l. All (Names n) l in
     built_both g h (omega (arith, c.in_ok-difference.ensures.width, c.requires.width)) (subst P (sym c.opposite.ensures) (named_more n (neg_ℤ less) c.in_ok-rest.rest (opposite_names n less nl') (subst Q (sym c.in_ok-rest.ensures.bits) (take_names n c.width.result c.in_ok-kept.kept h.names))))
-      (λ v p q en. step_word v c.args.next.now c.args.divisor.now diff c.in_ok-kept.kept c.in_ok-rest.rest less c.opposite.result c.args.never (length c.args.divisor.now) _ nl some c.sign-less.ensures
-        c.opposite.ensures en p q (c.width.ensures.range v) (rw c.width.ensures.width at (c.in_ok-rest.ensures.value v)))
+    (λ v p q en. step_word v c.args.next.now c.args.divisor.now diff c.in_ok-kept.kept c.in_ok-rest.rest less c.opposite.result c.args.never (length c.args.divisor.now) _ nl some c.sign-less.ensures
+    c.opposite.ensures en p q (c.width.ensures.range v) (rw c.width.ensures.width at (c.in_ok-rest.ensures.value v)))

@@ -29,10 +29,10 @@ returns-clause-word c =
     record {
       some = omega (arith, c.in_ok-word.ensures.width, c.in_ok-signed.ensures.width);
       built = built_both (built_then (built_then (built_then g h) k) l) m
-        (omega (arith, c.in_ok-word.ensures.width, c.in_ok-signed.ensures.width, c.in_ok-quotient.ensures.quotient_width)) m.names
-        (λ v p q. let n = p.0.0.0 in
+          (omega (arith, c.in_ok-word.ensures.width, c.in_ok-signed.ensures.width, c.in_ok-quotient.ensures.quotient_width)) m.names
+          (λ v p q. let n = p.0.0.0 in
           quotient_value (lit_true v x) (lit_true v y) (word_value v a) (word_value v b) (word_value v c.in_ok-signed.signed) (word_value v c.in_ok-quotient.quotient) (word_value v c.in_ok-word.word)
-            (sign_word v a x c.requires.some_a c.sign.ensures) (sign_word v b y c.requires.some_b c.sign-2.ensures)
-            (λ some. (p.0.0.1 n some).0)
-            (p.1 n ∙ ap (λ z. if z then pos 0 -ℤ word_value v c.in_ok-quotient.quotient else word_value v c.in_ok-quotient.quotient) p.0.1) (q n));
+          (sign_word v a x c.requires.some_a c.sign.ensures) (sign_word v b y c.requires.some_b c.sign-2.ensures)
+          (λ some. (p.0.0.1 n some).0)
+          (p.1 n ∙ ap (λ z. if z then pos 0 -ℤ word_value v c.in_ok-quotient.quotient else word_value v c.in_ok-quotient.quotient) p.0.1) (q n));
     }

@@ -11,5 +11,5 @@ returns-clause-sum c =
     let g2 = c.in_ok-sum.ensures.gate in
     let g3 = c.in_ok-carry.ensures.gate in
     built_both (built_then g1 g2) g3 (omega arith)
-      (named_more _ c.in_ok-sum.sum (c.in_ok-carry.carry ∷ []) (names_later _ _ c.in_ok-sum.sum (name_of g2) g3.variables) g3.names)
-      (λ v p q. (p.1 ∙ ap (λ x. differ x (lit_true v c.args.c)) p.0, q ∙ ap (λ x. if x then lit_true v c.args.c else lit_true v c.args.a) p.0))
+    (named_more _ c.in_ok-sum.sum (c.in_ok-carry.carry ∷ []) (names_later _ _ c.in_ok-sum.sum (name_of g2) g3.variables) g3.names)
+    (λ v p q. (p.1 ∙ ap (λ x. differ x (lit_true v c.args.c)) p.0, q ∙ ap (λ x. if x then lit_true v c.args.c else lit_true v c.args.a) p.0))

@@ -24,7 +24,7 @@ pub returns-clause-gate : goal.returns-clause-gate
 returns-clause-gate c =
     let g = c.in_ok-neither.ensures.gate in
     built_as g (omega arith) (rw c.opposite-3.ensures (named_one _ _ (opposite_names _ c.in_ok-neither.neither (name_of g))))
-      (λ v h. ap (lit_true v) c.opposite-3.ensures ∙ opposite_value _ c.in_ok-neither.neither v (name_of g)
-        ∙ ap not (h ∙ ap (λ x. x && lit_true v c.opposite-2.result) (ap (lit_true v) c.opposite.ensures ∙ opposite_value _ c.args.a v c.requires.a)
-                    ∙ ap (λ y. not (lit_true v c.args.a) && y) (ap (lit_true v) c.opposite-2.ensures ∙ opposite_value _ c.args.b v c.requires.b))
-        ∙ de_morgan (lit_true v c.args.a) (lit_true v c.args.b))
+    (λ v h. ap (lit_true v) c.opposite-3.ensures ∙ opposite_value _ c.in_ok-neither.neither v (name_of g)
+    ∙ ap not (h ∙ ap (λ x. x && lit_true v c.opposite-2.result) (ap (lit_true v) c.opposite.ensures ∙ opposite_value _ c.args.a v c.requires.a)
+    ∙ ap (λ y. not (lit_true v c.args.a) && y) (ap (lit_true v) c.opposite-2.ensures ∙ opposite_value _ c.args.b v c.requires.b))
+    ∙ de_morgan (lit_true v c.args.a) (lit_true v c.args.b))

@@ -7,5 +7,5 @@ use Rattle.bit_words.proofs.builder.Builder.gate_words.Given as goal
 abbrev pub invariant-bits : goal.invariant-bits
 invariant-bits l = record {
   built : Built l.fn.self l.self l.i l.bits.items (Zipping (λ v. gate_value v l.gate) l.a l.b (drop l.i l.a) (drop l.i l.b) l.bits.items);
-  length : length l.bits.items ≡ l.i
+  length : length l.bits.items ≡ l.i;
 }

@@ -27,9 +27,9 @@ bits-preserved c =
     let ey = next_left b c.bits.i c.bit-in-bits.result (omega arith) c.bit-in-bits.ensures in
     let i = rw (ex, ey) at c.bits.invariant in
     lesser_step _ _ _ _ _ c.args.self.now.variables a b c.bit.result c.bit-in-bits.result _ (drop (c.bits.i + 1) a) (drop (c.bits.i + 1) b) _ _ i
-      (name_at _ _ a c.bits.i c.bit.result c.requires.a (omega arith) c.bit.ensures (omega arith)) c.opposite-not_a.ensures
-      (omega (arith, length-drop (c.bits.i + 1) a)) (omega (arith, length-drop (c.bits.i + 1) a, length-drop (c.bits.i + 1) b))
-      c.in_ok-so_far-2.ensures.gate (omega arith)
+    (name_at _ _ a c.bits.i c.bit.result c.requires.a (omega arith) c.bit.ensures (omega arith)) c.opposite-not_a.ensures
+    (omega (arith, length-drop (c.bits.i + 1) a)) (omega (arith, length-drop (c.bits.i + 1) a, length-drop (c.bits.i + 1) b))
+    c.in_ok-so_far-2.ensures.gate (omega arith)
 
 pub returns-clause-gate : goal.returns-clause-gate
 returns-clause-gate c =
@@ -44,4 +44,4 @@ returns-clause-gate c =
     let eb' : drop c.bits.i b ≡ y ∷ [] = eb ∙ ap (λ l. y ∷ l) (drop_all (c.bits.i + 1) b (omega arith)) in
     let i = rw (ea', eb') at c.bits.invariant in
     lesser_all _ _ _ _ _ c.args.self.now.variables a b x y _ _ _ i
-      (name_at _ _ b c.bits.i y c.requires.b (omega arith) (rw la c.bit-2.ensures) (omega arith)) c.opposite-not_b.ensures c.in_ok-less.ensures.gate (omega arith)
+    (name_at _ _ b c.bits.i y c.requires.b (omega arith) (rw la c.bit-2.ensures) (omega arith)) c.opposite-not_b.ensures c.in_ok-less.ensures.gate (omega arith)

@@ -36,4 +36,4 @@ pub returns-clause-divided : goal.returns-clause-divided
 returns-clause-divided c =
     let e : length c.in_ok-low.low ≡ length c.args.top.now - 1 = omega (arith, c.in_ok-low.ensures.width) in
     long_all _ _ _ (c.width.result - 1) c.args.top.now c.in_ok-low.low c.args.divisor.now c.in_ok-pair.pair.0 c.in_ok-pair.pair.1 c.args.never c.in_ok-pair.ensures.divided
-      c.in_ok-low.ensures.bits (omega (arith, c.requires.more)) (ap (λ n. n * (4 * length c.args.divisor.now + 8)) (sym e))
+    c.in_ok-low.ensures.bits (omega (arith, c.requires.more)) (ap (λ n. n * (4 * length c.args.divisor.now + 8)) (sym e))

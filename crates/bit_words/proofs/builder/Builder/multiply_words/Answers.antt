@@ -20,8 +20,11 @@ rows-init c =
     let never = c.in_ok-never.never in
     let w : length c.in_ok-rows.rows ≡ length a = omega (arith, c.in_ok-rows.ensures.width) in
     record {
-      built = built_as g (omega arith) (named_none _) (λ v p. (p, rowing_none v a b _ c.in_ok-rows.rows c.new-bits.ensures.items
-        (none_word v _ c.in_ok-rows.rows never c.in_ok-rows.ensures.bits p)));
+      built = built_as g (omega arith) (named_none _) (λ v p. (
+        p,
+        rowing_none v a b _ c.in_ok-rows.rows c.new-bits.ensures.items
+            (none_word v _ c.in_ok-rows.rows never c.in_ok-rows.ensures.bits p),
+      ));
       never = name_of g;
       rows = rw c.in_ok-rows.ensures.bits (padded_names _ _ (never ∷ []) (named_one _ never (name_of g)));
       bits = rw c.new-bits.ensures.items (named_none _);
@@ -58,13 +61,13 @@ rows-preserved c =
     let names = sum.built.names in
     record {
       built = rw c.in_ok-push.ensures.items (rows_step _ _ _ _ _ _ _ a b c.rows.bits.items c.rows.rows _ _ _ left x low c.in_ok-never.never i row sum
-        (omega (arith, length-drop (c.rows.i + 1) b)) (omega (arith, ws, la)) c.bit-in-rows.ensures c.in_ok-rows-2.ensures.bits
-        (omega (arith, mul_next c.rows.i k, c.in_ok-row.ensures.width, c.rows.invariant.width)));
+          (omega (arith, length-drop (c.rows.i + 1) b)) (omega (arith, ws, la)) c.bit-in-rows.ensures c.in_ok-rows-2.ensures.bits
+          (omega (arith, mul_next c.rows.i k, c.in_ok-row.ensures.width, c.rows.invariant.width)));
       never = names_later _ _ c.in_ok-never.never c.rows.invariant.never (omega (arith, row.built.variables, sum.built.variables));
       rows = rw c.in_ok-rows-2.ensures.bits (drop_names _ 1 c.in_ok-sum.sum names);
       bits = rw c.in_ok-push.ensures.items (All-append (Names _) c.rows.bits.items (low ∷ [])
-        (all_later _ _ c.rows.bits.items c.rows.invariant.bits (omega (arith, row.built.variables, sum.built.variables)))
-        (named_one _ low (name_at _ _ c.in_ok-sum.sum 0 low names (omega (arith, ws)) c.bit-in-rows.ensures (omega arith))));
+          (all_later _ _ c.rows.bits.items c.rows.invariant.bits (omega (arith, row.built.variables, sum.built.variables)))
+          (named_one _ low (name_at _ _ c.in_ok-sum.sum 0 low names (omega (arith, ws)) c.bit-in-rows.ensures (omega arith))));
       width = ap length c.in_ok-rows-2.ensures.bits ∙ (omega (arith, length-drop 1 c.in_ok-sum.sum, ws));
       length = ap length c.in_ok-push.ensures.items ∙ length-append c.rows.bits.items (low ∷ []) ∙ ap (λ n. n + 1) c.rows.invariant.length;
     }
@@ -78,7 +81,7 @@ returns-clause-word c =
     let li : c.rows.i ≡ c.width-last.result - 1 = omega arith in
     let lb : length b ≡ c.rows.i + 1 = omega arith in
     let ex : drop c.rows.i b ≡ x ∷ [] =
-        next_left b c.rows.i x (omega arith) (rw li c.bit-2.ensures) ∙ ap (λ l. x ∷ l) (drop_all (c.rows.i + 1) b (omega arith)) in
+    next_left b c.rows.i x (omega arith) (rw li c.bit-2.ensures) ∙ ap (λ l. x ∷ l) (drop_all (c.rows.i + 1) b (omega arith)) in
     let i = rw ex at c.rows.invariant.built in
     rw c.from_bits.ensures (rows_all _ _ _ _ _ _ _ a b c.rows.bits.items c.rows.rows _ _ _ x c.in_ok-never.never i c.in_ok-row-2.ensures.word c.in_ok-rest.ensures.word
-      (omega (arith, mul_next c.rows.i k, ap (λ n. n * k) lb, c.in_ok-row-2.ensures.width, c.rows.invariant.width)) c.rows.invariant.bits c.in_ok-append_to.ensures)
+    (omega (arith, mul_next c.rows.i k, ap (λ n. n * k) lb, c.in_ok-row-2.ensures.width, c.rows.invariant.width)) c.rows.invariant.bits c.in_ok-append_to.ensures)

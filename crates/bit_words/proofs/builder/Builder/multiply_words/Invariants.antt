@@ -11,5 +11,5 @@ invariant-rows l = record {
   rows : All (Names l.self.variables) l.rows;
   bits : All (Names l.self.variables) l.bits.items;
   width : length l.rows ≡ length l.a;
-  length : length l.bits.items ≡ l.i
+  length : length l.bits.items ≡ l.i;
 }

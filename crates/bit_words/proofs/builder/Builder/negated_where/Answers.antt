@@ -19,4 +19,4 @@ returns-clause-word c =
     let g = c.in_ok-negative.ensures.word.built in
     let h = c.in_ok-chosen.ensures.word.built in
     built_both g h (omega (arith, c.in_ok-zero.ensures.width, c.in_ok-negative.ensures.width, c.requires.some)) h.names
-      (λ v p q n. negated_word v c.args.c c.args.never 0 c.in_ok-zero.zero c.in_ok-negative.negative c.args.a.now c.in_ok-chosen.chosen c.in_ok-zero.ensures.bits n p q)
+    (λ v p q n. negated_word v c.args.c c.args.never 0 c.in_ok-zero.zero c.in_ok-negative.negative c.args.a.now c.in_ok-chosen.chosen c.in_ok-zero.ensures.bits n p q)

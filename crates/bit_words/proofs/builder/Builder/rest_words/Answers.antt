@@ -24,8 +24,8 @@ returns-clause-word c =
     record {
       some = omega (arith, c.in_ok-word.ensures.width, c.in_ok-signed.ensures.width);
       built = built_both (built_then (built_then g h) l) m
-        (omega (arith, c.in_ok-word.ensures.width, c.in_ok-signed.ensures.width, c.in_ok-quotient.ensures.rest_width)) m.names
-        (λ v p q. let n = p.0.0 in
+          (omega (arith, c.in_ok-word.ensures.width, c.in_ok-signed.ensures.width, c.in_ok-quotient.ensures.rest_width)) m.names
+          (λ v p q. let n = p.0.0 in
           rest_value (lit_true v x) (word_value v a) (word_value v b) (word_value v c.in_ok-signed.signed) (word_value v c.in_ok-quotient.rest) (word_value v c.in_ok-word.word)
-            (sign_word v a x c.requires.some_a c.sign.ensures) (λ some. (p.0.1 n some).1) (p.1 n) (q n));
+          (sign_word v a x c.requires.some_a c.sign.ensures) (λ some. (p.0.1 n some).1) (p.1 n) (q n));
     }

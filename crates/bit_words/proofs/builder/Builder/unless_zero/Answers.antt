@@ -19,4 +19,4 @@ returns-clause-word c =
     let g = c.in_ok-is_zero.ensures.gate in
     let h = c.in_ok-chosen.ensures.word.built in
     built_both g h (omega (arith, c.in_ok-zero.ensures.width, c.requires.some, c.requires.some_divisor)) h.names
-      (λ v p q n. unless_word v c.in_ok-is_zero.is_zero c.args.never 0 c.in_ok-zero.zero c.args.divisor.now c.args.a.now c.in_ok-chosen.chosen c.in_ok-zero.ensures.bits n p q)
+    (λ v p q n. unless_word v c.in_ok-is_zero.is_zero c.args.never 0 c.in_ok-zero.zero c.args.divisor.now c.args.a.now c.in_ok-chosen.chosen c.in_ok-zero.ensures.bits n p q)
