@@ -1,10 +1,11 @@
 //! Words of bits.
 
-ghost use Rattle.std.specs.Prelude.{◌≡◌, ℕ, ◌+◌, ◌-◌, ◌*◌, ◌<◌, ◌≤◌, length, List, ◌∷◌, [], map, take, drop, slice_index_or, IfOk, OnOk, ◌++◌, All, replicate, neg_ℤ};
+ghost use Rattle.std.specs.Prelude.{◌≡◌, ◌^◌, ℕ, ◌+◌, ◌-◌, ◌*◌, ◌<◌, ◌≤◌, length, List, ◌∷◌, [], map, take, drop, slice_index_or, IfOk, OnOk, ◌++◌, All, replicate, neg_ℤ};
 ghost use Rattle.cnf_core.specs.Literals.{Names};
-ghost use Rattle.bit_words.specs.Builds.{Values};
+ghost use Rattle.bit_words.specs.Builds.{Values, Stands};
 ghost use Rattle.bit_words.specs.Words.{FitsIn, padded, word_value};
 
+use crate::builder::Builder;
 use cnf_core::Lit;
 use js_units::NoMemory;
 use std::alloc::Global;
@@ -146,5 +147,25 @@ impl BitInt {
             bits.push(bit.opposite())?;
         }
         Ok(BitInt { bits })
+    }
+}
+
+impl Builder {
+    /// A word of new bits, of any value.
+    #[tactic(auto, using(crate::proofs::Standing::standing))]
+    pub fn new_word(&mut self, width: usize) -> Result<BitInt, NoMemory>
+        requires space { self.old.variables + width ≤ 2 ^ 62 }
+        ensures stands { Stands self.old self.new }
+        ensures clauses { self.new.clauses ≡ self.old.clauses }
+        ensures variables { IfOk result (λ word. self.new.variables ≡ self.old.variables + width) }
+        ensures width { IfOk result (λ word. length word ≡ width) }
+        ensures names { IfOk result (λ word. All (Names self.new.variables) word) }
+    {
+        let mut bits = Vec::new(self.alloc);
+        'bits: for _ in 0..width {
+            let bit = self.new_bit();
+            bits.push(bit)?;
+        }
+        Ok(BitInt::from_bits(bits))
     }
 }
