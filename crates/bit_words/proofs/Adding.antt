@@ -1,6 +1,6 @@
 -- Sums of words.
-use Rattle.std.proofs.Common.{ℤ, pos, negsuc, ◌+ℤ◌, ◌-ℤ◌, neg_ℤ, ℕ, zero, suc, Bool, true, false, not, if◌then◌else◌, ◌≡◌, ◌∙◌, sym, ap, refl, List, [], ◌∷◌, ◌++◌, length, map, take, drop, replicate, get_or, max, ◌+◌, ◌-◌, ◌*◌, ◌≤◌, ◌<◌, arith, subst, All, append_assoc, append-nil, add-one}
-use Rattle.std.proofs.lemmas.List.{length-append, map-append, length-map}
+use Rattle.std.proofs.Common.{ℤ, pos, negsuc, ◌+ℤ◌, ◌-ℤ◌, neg_ℤ, ℕ, zero, suc, Bool, true, false, not, if◌then◌else◌, ◌≡◌, ◌∙◌, sym, ap, refl, List, [], ◌∷◌, ◌++◌, length, map, replicate, max, ◌+◌, ◌-◌, ◌*◌, ◌≤◌, ◌<◌, arith, subst, All, append_assoc, append-nil, add-one}
+use Rattle.std.proofs.lemmas.List.{map-append, length-map}
 use Rattle.std.proofs.lemmas.List.Elements.{All-append}
 use Rattle.std.proofs.lemmas.Int.{ints}
 use Rattle.cnf_core.specs.Literals.{Names, lit_true}
@@ -8,7 +8,7 @@ use Rattle.cnf_core.specs.declared.clauses.Cnf.{Cnf}
 use Rattle.bit_words.specs.Builds.{Values, Built, IsGate, differ}
 use Rattle.bit_words.specs.Words.{IsWord, IsSum, padded, sum_bits, bits, bit_int, word_value, int_of}
 use Rattle.bit_words.proofs.Within.{all_later}
-use Rattle.bit_words.proofs.Composed.{built_none, built_as, built_both, named_more, named_one, name_of}
+use Rattle.bit_words.proofs.Composed.{built_none, built_as, built_both, named_more, named_one}
 use Rattle.bit_words.proofs.Numbers.{int_of-more, int_of-padded, length-padded, int_of-not}
 use Rattle.bit_words.proofs.Lists.{bits-padded, bits-opposites}
 use Rattle.bit_words.proofs.Opposites.{opposite_value}

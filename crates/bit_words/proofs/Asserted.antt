@@ -1,5 +1,5 @@
 -- The clause of one literal.
-use Rattle.std.proofs.Common.{◌≡◌, true, false, Bool, ◌||◌, ◌∙◌, sym, refl, ap, List, [], ◌∷◌, ◌++◌, ℤ, ℕ, zero, suc, ◌+◌, ◌<◌, All, subst, arith, ◌↔◌}
+use Rattle.std.proofs.Common.{◌≡◌, true, false, Bool, ◌||◌, ◌∙◌, sym, refl, List, [], ◌∷◌, ◌++◌, ℤ, zero, suc, subst, arith, ◌↔◌}
 use Rattle.cnf_core.specs.Literals.{lit_true, Solves}
 use Rattle.bit_words.specs.Builds.{Values}
 use Rattle.bit_words.proofs.Composed.{solves_both, solves_first, solves_second}

@@ -1,12 +1,11 @@
 -- One call after another.
-use Rattle.std.proofs.Common.{ℤ, ℕ, zero, suc, Bool, true, false, ◌&&◌, ◌≡◌, ◌∙◌, sym, ap, refl, subst, List, [], ◌∷◌, ◌++◌, length, ◌+◌, ◌≤◌, ◌<◌, arith, All, append_assoc, append-nil}
+use Rattle.std.proofs.Common.{ℤ, ℕ, zero, suc, Bool, true, false, ◌&&◌, ◌≡◌, ◌∙◌, sym, ap, refl, List, [], ◌∷◌, ◌++◌, ◌+◌, ◌≤◌, arith, All, append_assoc, append-nil}
 use Rattle.std.specs.List.{list_all}
 use Rattle.std.proofs.lemmas.List.Elements.{All-append}
 use Rattle.std.proofs.lemmas.List.Folds.{list_all-append}
 use Rattle.cnf_core.specs.Literals.{Names, Solves, clause_true}
 use Rattle.cnf_core.specs.declared.clauses.Cnf.{Cnf}
-use Rattle.bit_words.specs.Builds.{Values, AgreeUpTo, GoesOn, Built, Stands}
-use Rattle.bit_words.proofs.Within.{all_later}
+use Rattle.bit_words.specs.Builds.{Values, GoesOn, Built, Stands}
 use Rattle.bit_words.proofs.Standing.{stands_added}
 
 abbrev pub solved : Values → List (List ℤ) → Bool

@@ -1,5 +1,5 @@
 -- Long division of words.
-use Rattle.std.proofs.Common.{ℕ, zero, suc, ℤ, pos, negsuc, ◌+ℤ◌, ◌-ℤ◌, ◌*ℤ◌, neg_ℤ, ◌≤ℤ◌, ◌<ℤ◌, Bool, true, false, not, if◌then◌else◌, ◌≡◌, ◌∙◌, sym, ap, refl, subst, arith, List, [], ◌∷◌, ◌++◌, length, map, take, drop, get_or, ◌<◌, ◌≤◌, ◌+◌, ◌-◌, ◌*◌, ◌/◌, ◌%◌, All, unsigned_abs, int_div, int_rem, int_lt, int_le}
+use Rattle.std.proofs.Common.{ℕ, zero, suc, ℤ, pos, negsuc, ◌+ℤ◌, ◌-ℤ◌, ◌*ℤ◌, neg_ℤ, ◌≤ℤ◌, ◌<ℤ◌, Bool, true, false, not, if◌then◌else◌, ◌≡◌, ◌∙◌, sym, ap, refl, subst, arith, List, [], ◌∷◌, ◌++◌, length, take, get_or, ◌<◌, ◌≤◌, ◌+◌, ◌-◌, ◌*◌, ◌/◌, ◌%◌, All, unsigned_abs, int_div, int_rem}
 use Rattle.std.specs.Ordering.{int_eq}
 use Rattle.std.proofs.lemmas.Int.{ints}
 use Rattle.std.proofs.lemmas.List.{length-append, map-append, length-map}
@@ -9,10 +9,10 @@ use Rattle.js_values.specs.Numbers.{is_zero, same}
 use Rattle.js_values.specs.Integers.{quotient, rest}
 use Rattle.cnf_core.specs.Literals.{Names, lit_true}
 use Rattle.cnf_core.specs.declared.clauses.Cnf.{Cnf}
-use Rattle.bit_words.specs.Builds.{Values, Built, IsGate, differ}
-use Rattle.bit_words.specs.Words.{IsWord, FitsIn, bit_int, int_of, bits, word_value, padded}
+use Rattle.bit_words.specs.Builds.{Values, Built, differ}
+use Rattle.bit_words.specs.Words.{FitsIn, bit_int, int_of, bits, word_value, padded}
 use Rattle.bit_words.specs.LongDivision.{IsStep, IsStepOf, IsQuotient, AreDivided, above}
-use Rattle.bit_words.proofs.Numbers.{int_of-more, int_of-fits}
+use Rattle.bit_words.proofs.Numbers.{int_of-more}
 use Rattle.bit_words.proofs.Lists.{bits-take}
 use Rattle.bit_words.proofs.Rows.{int_of-above, mul_step, none_word, no_borrow}
 use Rattle.bit_words.proofs.Composed.{built_as, built_both, built_none, named_none, named_one}

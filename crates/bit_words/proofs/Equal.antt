@@ -1,16 +1,16 @@
 -- Equality of words.
-use Rattle.std.proofs.Common.{ℤ, pos, ◌+ℤ◌, neg_ℤ, ℕ, zero, suc, Bool, true, false, not, ◌&&◌, ◌≡◌, ◌∙◌, sym, ap, refl, List, [], ◌∷◌, ◌++◌, length, drop, ◌+◌, ◌-◌, ◌*◌, ◌≤◌, ◌<◌, arith, All}
+use Rattle.std.proofs.Common.{ℤ, pos, ◌+ℤ◌, neg_ℤ, ℕ, Bool, true, false, not, ◌&&◌, ◌≡◌, ◌∙◌, sym, ap, refl, List, [], ◌∷◌, length, ◌+◌, ◌-◌, ◌≤◌, ◌<◌, arith}
 use Rattle.std.proofs.lemmas.List.{length-map}
 use Rattle.std.specs.Ordering.{int_eq}
 use Rattle.std.specs.Bool.{Decides}
 use Rattle.std.proofs.lemmas.Bool.Decides.{Decides-int_eq, same_from_decides}
 use Rattle.std.proofs.lemmas.Int.{ints}
-use Rattle.cnf_core.specs.Literals.{Names, lit_true}
+use Rattle.cnf_core.specs.Literals.{lit_true}
 use Rattle.cnf_core.specs.declared.clauses.Cnf.{Cnf}
 use Rattle.bit_words.specs.Builds.{Values, Built, IsGate, differ}
 use Rattle.bit_words.specs.Words.{padded, equal_bits, bits, bit_int, word_value, int_of}
 use Rattle.bit_words.proofs.Composed.{built_as, built_both, built_then, name_of}
-use Rattle.bit_words.proofs.Numbers.{int_of-more, int_of-padded, length-padded}
+use Rattle.bit_words.proofs.Numbers.{int_of-padded, length-padded}
 use Rattle.bit_words.proofs.Lists.{bits-padded}
 use Rattle.bit_words.proofs.Opposites.{opposite_value}
 

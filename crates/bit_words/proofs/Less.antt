@@ -1,12 +1,12 @@
 -- Which word is less.
-use Rattle.std.proofs.Common.{ℕ, zero, suc, ℤ, pos, ◌+ℤ◌, neg_ℤ, ◌<ℤ◌, Bool, true, false, not, ◌&&◌, ◌||◌, ◌≡◌, ◌∙◌, sym, ap, refl, arith, List, [], ◌∷◌, length, drop, ◌<◌, ◌≤◌, ◌+◌, ◌-◌, int_lt, All}
+use Rattle.std.proofs.Common.{ℕ, ℤ, pos, ◌+ℤ◌, neg_ℤ, Bool, true, false, not, ◌≡◌, ◌∙◌, sym, ap, refl, arith, List, [], ◌∷◌, length, ◌<◌, ◌≤◌, ◌+◌, ◌-◌, int_lt}
 use Rattle.std.proofs.lemmas.Int.{ints}
 use Rattle.std.proofs.lemmas.List.{length-map}
 use Rattle.cnf_core.specs.Literals.{Names, lit_true}
 use Rattle.cnf_core.specs.declared.clauses.Cnf.{Cnf}
 use Rattle.bit_words.specs.Builds.{Values, Built, IsGate, majority}
 use Rattle.bit_words.specs.Words.{padded, bit_int, int_of, less_bits, bits, word_value}
-use Rattle.bit_words.proofs.Composed.{built_as, built_both, name_of}
+use Rattle.bit_words.proofs.Composed.{built_as, built_both}
 use Rattle.bit_words.proofs.Numbers.{int_of-padded, length-padded}
 use Rattle.bit_words.proofs.Lists.{bits-padded}
 use Rattle.bit_words.proofs.Opposites.{opposite_value}

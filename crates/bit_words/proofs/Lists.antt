@@ -1,5 +1,5 @@
 -- Words as lists of literals.
-use Rattle.std.proofs.Common.{ℤ, neg_ℤ, ℕ, zero, suc, Bool, not, ◌≡◌, ◌∙◌, sym, ap, refl, List, [], ◌∷◌, ◌++◌, length, map, take, drop, replicate, get_or, ◌+◌, ◌-◌, ◌*◌, ◌≤◌, ◌<◌, arith, subst, All, append_assoc, append-nil, add-one, drop-cons}
+use Rattle.std.proofs.Common.{ℤ, neg_ℤ, ℕ, zero, suc, not, ◌≡◌, ◌∙◌, sym, ap, refl, List, [], ◌∷◌, ◌++◌, length, map, take, drop, replicate, get_or, ◌+◌, ◌-◌, ◌≤◌, ◌<◌, arith, subst, All, add-one, drop-cons}
 use Rattle.std.proofs.lemmas.List.{length-map, length-take}
 use Rattle.cnf_core.specs.Literals.{Names, lit_true}
 use Rattle.bit_words.specs.Builds.{Values}
@@ -7,7 +7,7 @@ use Rattle.bit_words.specs.Words.{padded, bits, int_of, word_value, FitsIn}
 use Rattle.bit_words.proofs.Within.{names_later}
 use Rattle.bit_words.proofs.Composed.{named_more, named_none}
 use Rattle.bit_words.proofs.Opposites.{opposite_names, opposite_value}
-use Rattle.bit_words.proofs.Numbers.{length-padded, int_of-take, int_of-padded, int_of-fits}
+use Rattle.bit_words.proofs.Numbers.{int_of-take, int_of-padded, int_of-fits}
 
 bits-replicate : (v : Values) (k : ℕ) (x : ℤ) → bits v (replicate k x) ≡ replicate k (lit_true v x)
 bits-replicate v zero x = refl

@@ -1,9 +1,8 @@
 -- The numbers of lists of bits.
-use Rattle.std.proofs.Common.{ℕ, suc, zero, ℤ, pos, negsuc, ◌+ℤ◌, ◌-ℤ◌, neg_ℤ, ◌≤ℤ◌, ◌<ℤ◌, Bool, true, false, not, if◌then◌else◌, ◌≡◌, ◌+◌, ◌-◌, ◌*◌, ◌^◌, ◌<◌, ◌≤◌, ◌∙◌, List, [], ◌∷◌, ◌++◌, length, map, take, replicate, refl, ap, sym, subst, arith}
+use Rattle.std.proofs.Common.{ℕ, suc, zero, ℤ, pos, negsuc, ◌+ℤ◌, ◌-ℤ◌, neg_ℤ, ◌≤ℤ◌, ◌<ℤ◌, Bool, true, false, not, ◌≡◌, ◌+◌, ◌*◌, ◌^◌, ◌<◌, ◌≤◌, ◌∙◌, List, [], ◌∷◌, length, map, take, replicate, refl, ap, arith}
 use Rattle.std.proofs.Math.Nat.{pow-succ'}
 use Rattle.std.proofs.lemmas.Int.{ints}
 use Rattle.std.proofs.lemmas.List.{length-replicate}
-use Rattle.bit_words.specs.Builds.{differ}
 use Rattle.bit_words.specs.Words.{bit_int, int_of, padded, FitsIn}
 
 pub int_of-more : (x : Bool) (ys : List Bool) → 0 < length ys → int_of (x ∷ ys) ≡ bit_int x +ℤ (int_of ys +ℤ int_of ys)

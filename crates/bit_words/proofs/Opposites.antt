@@ -1,6 +1,5 @@
 -- Opposite literals.
-use Rattle.std.proofs.Common.{ℕ, zero, suc, ℤ, pos, negsuc, neg_ℤ, Bool, true, false, not, ◌≡◌, ◌≤◌, ◌<◌, refl, arith, List, [], ◌∷◌, map, All, get_or, ◌∙◌, ap}
-use Rattle.std.proofs.lemmas.Int.{ints}
+use Rattle.std.proofs.Common.{ℕ, zero, suc, ℤ, pos, negsuc, neg_ℤ, Bool, true, false, not, ◌≡◌, refl, arith}
 use Rattle.cnf_core.specs.Literals.{Names, lit_true}
 use Rattle.bit_words.specs.Builds.{Values}
 

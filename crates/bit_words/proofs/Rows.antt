@@ -1,19 +1,19 @@
 -- Products of words, row by row.
-use Rattle.std.proofs.Common.{ℕ, zero, suc, ℤ, pos, negsuc, ◌+ℤ◌, ◌-ℤ◌, ◌*ℤ◌, neg_ℤ, Bool, true, false, ◌&&◌, if◌then◌else◌, ◌≡◌, ◌∙◌, sym, ap, refl, subst, arith, List, [], ◌∷◌, ◌++◌, length, map, take, drop, replicate, get_or, ◌<◌, ◌≤◌, ◌+◌, ◌-◌, ◌*◌, All, append_assoc}
+use Rattle.std.proofs.Common.{ℕ, zero, suc, ℤ, pos, negsuc, ◌+ℤ◌, ◌-ℤ◌, ◌*ℤ◌, neg_ℤ, Bool, true, false, ◌&&◌, if◌then◌else◌, ◌≡◌, ◌∙◌, sym, ap, refl, subst, arith, List, [], ◌∷◌, ◌++◌, length, drop, replicate, get_or, ◌<◌, ◌≤◌, ◌+◌, ◌-◌, ◌*◌, All}
 use Rattle.std.proofs.lemmas.Int.{ints}
-use Rattle.std.proofs.lemmas.List.{length-append, map-append, length-map, length-replicate}
+use Rattle.std.proofs.lemmas.List.{length-append, map-append, length-map}
 use Rattle.std.proofs.Math.IntN.{*ℤ-zero, zero-*ℤ, *ℤ-negsuc, suc_ℤ-*ℤ, *ℤ_comm}
 use Rattle.std.proofs.Math.Nat.{add-mul, one-mul}
 use Rattle.std.proofs.lemmas.List.Elements.{All-append}
 use Rattle.bit_words.proofs.Within.{all_later}
 use Rattle.cnf_core.specs.Literals.{Names, lit_true}
 use Rattle.cnf_core.specs.declared.clauses.Cnf.{Cnf}
-use Rattle.bit_words.specs.Builds.{Values, Built, IsGate}
+use Rattle.bit_words.specs.Builds.{Values, Built}
 use Rattle.bit_words.specs.Words.{IsWord, bit_int, int_of, bits, word_value, padded, zip_bits}
 use Rattle.bit_words.specs.LongDivision.{above}
 use Rattle.bit_words.proofs.Numbers.{int_of-more, int_of-padded}
 use Rattle.bit_words.proofs.Lists.{bits-padded}
-use Rattle.bit_words.proofs.Composed.{built_none, built_as, built_both, built_then, named_none}
+use Rattle.bit_words.proofs.Composed.{built_as, built_both, built_then, named_none}
 
 pub one_more : (m : ℤ) (n : ℕ) → m *ℤ pos (suc n) ≡ (m *ℤ pos n) +ℤ m
 one_more m n = *ℤ_comm m (pos (suc n)) ∙ suc_ℤ-*ℤ (pos n) m ∙ ap (λ z. z +ℤ m) (*ℤ_comm (pos n) m)

@@ -1,6 +1,6 @@
 -- Earlier variables and clauses stand.
-use Rattle.std.proofs.Common.{ℤ, ℕ, ◌≡◌, ◌∙◌, sym, ap, refl, List, [], ◌∷◌, ◌++◌, length, take, min, ◌+◌, ◌≤◌, arith, append-nil}
-use Rattle.std.proofs.lemmas.List.{take-append-le, take-take, length-take, take_all, length-append}
+use Rattle.std.proofs.Common.{ℤ, ◌≡◌, ◌∙◌, sym, ap, List, [], ◌++◌, length, take, ◌≤◌, arith, append-nil}
+use Rattle.std.proofs.lemmas.List.{take-append-le, take-take, length-take, take_all}
 use Rattle.cnf_core.specs.declared.clauses.Cnf.{Cnf}
 use Rattle.bit_words.specs.Builds.{Stands}
 

@@ -1,9 +1,9 @@
 -- Gates by their tables of truth.
-use Rattle.std.proofs.Common.{if◌then◌else◌, ℤ, pos, negsuc, neg_ℤ, ℕ, zero, suc, Bool, true, false, not, cond, ◌≡◌, ◌∙◌, sym, ap, refl, ◌&&◌, ◌||◌, List, [], ◌∷◌, ◌++◌, length, ◌+◌, ◌-◌, ◌≤◌, ◌<◌, ◌==◌, arith, subst, ◌≢◌, inl, inr, append_assoc, All}
+use Rattle.std.proofs.Common.{if◌then◌else◌, ℤ, pos, negsuc, neg_ℤ, ℕ, suc, Bool, true, false, not, cond, ◌≡◌, ◌∙◌, sym, ap, refl, ◌&&◌, ◌||◌, List, [], ◌∷◌, ◌++◌, ◌+◌, ◌==◌, arith, subst, ◌≢◌, inl, inr, append_assoc}
 use Rattle.std.proofs.lemmas.Bool.{eq-eqb, ne_eqb, cases_lt}
-use Rattle.cnf_core.specs.Literals.{Names, Solves, lit_true, clause_true}
+use Rattle.cnf_core.specs.Literals.{Names, Solves, lit_true}
 use Rattle.cnf_core.specs.declared.clauses.Cnf.{Cnf}
-use Rattle.bit_words.specs.Builds.{Values, AgreeUpTo, GoesOn, Built, IsGate, differ, majority}
+use Rattle.bit_words.specs.Builds.{Values, AgreeUpTo, IsGate, differ, majority}
 use Rattle.bit_words.proofs.Composed.{solved, solved_of, solves_of, named_one}
 use Rattle.bit_words.proofs.Opposites.{opposite_value}
 

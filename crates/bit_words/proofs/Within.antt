@@ -1,5 +1,5 @@
 -- Names stay names while variables are added.
-use Rattle.std.proofs.Common.{ℕ, zero, suc, ℤ, ◌≡◌, ◌≤◌, ◌+◌, List, [], ◌∷◌, ◌++◌, All, get_or, arith}
+use Rattle.std.proofs.Common.{ℕ, zero, suc, ℤ, ◌≤◌, List, [], ◌∷◌, ◌++◌, All, get_or, arith}
 use Rattle.std.proofs.lemmas.List.Elements.{All-append}
 use Rattle.cnf_core.specs.Literals.{Names}
 

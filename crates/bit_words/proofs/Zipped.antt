@@ -1,6 +1,6 @@
 -- Words bit by bit.
-use Rattle.std.proofs.Common.{ℤ, pos, neg_ℤ, ℕ, zero, suc, Bool, true, false, not, ◌&&◌, ◌||◌, if◌then◌else◌, ◌≡◌, ◌∙◌, sym, ap, refl, List, [], ◌∷◌, ◌++◌, length, map, replicate, ◌+◌, ◌-◌, ◌≤◌, ◌<◌, arith, subst, All, append_assoc, append-nil}
-use Rattle.std.proofs.lemmas.List.{length-append, map-append, length-map}
+use Rattle.std.proofs.Common.{ℤ, ℕ, Bool, true, false, if◌then◌else◌, ◌≡◌, ◌∙◌, sym, ap, refl, List, [], ◌∷◌, ◌++◌, length, ◌+◌, ◌-◌, ◌≤◌, ◌<◌, arith, subst, append_assoc, append-nil}
+use Rattle.std.proofs.lemmas.List.{map-append, length-map}
 use Rattle.std.proofs.lemmas.List.Elements.{All-append}
 use Rattle.cnf_core.specs.Literals.{Names, lit_true}
 use Rattle.cnf_core.specs.declared.clauses.Cnf.{Cnf}
@@ -10,7 +10,7 @@ use Rattle.bit_words.specs.declared.joining.BitGate.TheVariants as gate
 use Rattle.bit_words.specs.Joins.{IsNamed}
 use Rattle.bit_words.specs.Words.{IsWord, padded, bits, word_value, int_of, zip_bits}
 use Rattle.bit_words.proofs.Within.{all_later, names_later}
-use Rattle.bit_words.proofs.Composed.{built_none, built_as, built_both, named_none, named_one, name_of}
+use Rattle.bit_words.proofs.Composed.{built_none, built_as, built_both, named_none}
 use Rattle.bit_words.proofs.Numbers.{int_of-padded, length-padded}
 use Rattle.bit_words.proofs.Lists.{bits-padded}
 

@@ -1,5 +1,5 @@
 -- What is made of pairs of bits (this project's own).
-use Rattle.std.specs.Prelude.{ℕ, Bool, true, false, ◌&&◌, ◌||◌, if◌then◌else◌}
+use Rattle.std.specs.Prelude.{ℕ, Bool, ◌&&◌, ◌||◌, if◌then◌else◌}
 use Rattle.cnf_core.specs.Literals.{Names, lit_true}
 use Rattle.bit_words.specs.Builds.{Values, differ}
 use Rattle.bit_words.specs.declared.joining.BitGate.{BitGate}

@@ -1,8 +1,8 @@
 -- Long division in base 2 (this project's own).
-use Rattle.std.specs.Prelude.{ℕ, ℤ, pos, ◌+ℤ◌, ◌*ℤ◌, ◌≤ℤ◌, ◌<ℤ◌, ◌+◌, ◌*◌, Bool, false, if◌then◌else◌, ◌≡◌, List, [], ◌∷◌, length, All}
+use Rattle.std.specs.Prelude.{ℤ, pos, ◌+ℤ◌, ◌*ℤ◌, ◌≤ℤ◌, ◌<ℤ◌, ◌+◌, ◌*◌, Bool, false, if◌then◌else◌, ◌≡◌, List, [], ◌∷◌, length, All}
 use Rattle.cnf_core.specs.Literals.{Names, lit_true}
 use Rattle.cnf_core.specs.declared.clauses.Cnf.{Cnf}
-use Rattle.bit_words.specs.Builds.{Values, Built}
+use Rattle.bit_words.specs.Builds.{Built}
 use Rattle.bit_words.specs.Words.{bit_int, bits, word_value}
 
 -- a number that isn't negative and is below twice the divisor: whether the divisor goes into it, and what is left

@@ -1,6 +1,6 @@
 -- Words: whole numbers in two's complement, least bit first (this project's own).
-use Rattle.std.specs.Prelude.{ℕ, suc, zero, ◌^◌, replicate, ℤ, pos, ◌+ℤ◌, neg_ℤ, ◌≤ℤ◌, ◌<ℤ◌, Bool, true, false, not, ◌&&◌, if◌then◌else◌, ◌≡◌, ◌+◌, ◌*◌, ◌≤◌, ◌<◌, List, [], ◌∷◌, length, map, All}
-use Rattle.cnf_core.specs.Literals.{Names, lit_true}
+use Rattle.std.specs.Prelude.{ℕ, suc, zero, ◌^◌, replicate, ℤ, pos, ◌+ℤ◌, neg_ℤ, ◌≤ℤ◌, ◌<ℤ◌, Bool, true, false, not, ◌&&◌, if◌then◌else◌, ◌≡◌, ◌*◌, ◌<◌, List, [], ◌∷◌, length, map}
+use Rattle.cnf_core.specs.Literals.{lit_true}
 use Rattle.cnf_core.specs.declared.clauses.Cnf.{Cnf}
 use Rattle.bit_words.specs.Builds.{Values, Built, differ, majority}
 

@@ -1,20 +1,18 @@
 -- Rows from words and literals.
-use Rattle.std.proofs.Common.{ℕ, zero, suc, ℤ, pos, Bool, true, false, ◌&&◌, ◌≡◌, ◌∙◌, sym, ap, refl, subst, arith, ◌<◌, ◌≤◌, ◌+◌, ◌-◌, ◌*◌, max, int_le, Some, List, [], ◌∷◌, length, map, get_or, All}
+use Rattle.std.proofs.Common.{ℕ, ℤ, Bool, ◌≡◌, ◌∙◌, sym, ap, refl, subst, arith, ◌<◌, ◌≤◌, ◌+◌, ◌-◌, ◌*◌, max, int_le, List, [], ◌∷◌, length, get_or, All}
 use Rattle.std.specs.Ordering.{int_eq}
-use Rattle.std.specs.Bool.{Decides}
 use Rattle.std.proofs.lemmas.Bool.Decides.{Decides-int_eq, same_from_decides}
 use Rattle.std.proofs.lemmas.Int.{ints}
 use Rattle.std.proofs.Math.Nat.{mul-le-mul}
 use Rattle.int_encoder.proofs.Orders.{le_decides, and_left, and_right}
-use Rattle.cnf_core.specs.Literals.{lit_true}
 use Rattle.cnf_core.specs.declared.clauses.Cnf.{Cnf}
 use Rattle.js_values.specs.Numbers.{same}
-use Rattle.bit_words.specs.Builds.{Values, Built, IsGate}
+use Rattle.bit_words.specs.Builds.{IsGate}
 use Rattle.bit_words.specs.Words.{IsWord, word_value}
 use Rattle.bit_words.proofs.Composed.{built_as}
 use Rattle.int_encoder.specs.declared.op.IntOp.{IntOp}
 use Rattle.int_encoder.specs.declared.op.IntBits.TheVariants as made
-use Rattle.int_encoder.specs.Rows.{Value, whole, truth, IsPart, IsRow, int_value, row_value, part_values, own_cost, widest}
+use Rattle.int_encoder.specs.Rows.{whole, truth, IsPart, IsRow, int_value, row_value, part_values, own_cost, widest}
 
 pub two_of : (parts : List (List ℤ)) (a b : List ℤ) → length parts ≡ 2 → a ≡ get_or parts 0 a → b ≡ get_or parts (length parts - 1) b → parts ≡ a ∷ b ∷ []
 two_of [] a b l ea eb = absurd (omega (arith, l))

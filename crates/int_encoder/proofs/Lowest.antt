@@ -1,5 +1,5 @@
 -- The lowest 32 bits.
-use Rattle.std.proofs.Common.{ℕ, zero, suc, ℤ, pos, Bool, true, false, ◌&&◌, ◌||◌, ◌≡◌, ◌∙◌, sym, ap, refl, subst, arith, ◌<◌, ◌≤◌, ◌+◌, ◌-◌, ◌*◌, ◌^◌, max, bit_and, bit_or, bit_xor, List, [], ◌∷◌, length, map, take, drop, All, Some}
+use Rattle.std.proofs.Common.{ℕ, ℤ, Bool, ◌&&◌, ◌||◌, ◌≡◌, ◌∙◌, sym, ap, subst, arith, ◌<◌, ◌≤◌, ◌+◌, ◌-◌, ◌^◌, max, bit_and, bit_or, bit_xor, List, length, take, drop, All, Some}
 use Rattle.std.proofs.lemmas.List.{length-map, length-take}
 use Rattle.cnf_core.specs.Literals.{Names, lit_true}
 use Rattle.cnf_core.specs.declared.clauses.Cnf.{Cnf}
@@ -8,7 +8,7 @@ use Rattle.js_values.specs.Integers.{bits_and, bits_or, bits_xor}
 use Rattle.bit_words.specs.Builds.{Values, Built, differ}
 use Rattle.bit_words.specs.Words.{IsWord, bits, word_value, int_of, padded, zip_bits}
 use Rattle.bit_words.proofs.Composed.{built_as}
-use Rattle.bit_words.proofs.Lists.{bits-take, bits-padded, padded_names, take_names, extended_value}
+use Rattle.bit_words.proofs.Lists.{bits-take, padded_names, take_names, extended_value}
 use Rattle.bit_words.proofs.Numbers.{length-padded}
 use Rattle.int_encoder.specs.Bits.{low_bits, nat_of}
 use Rattle.int_encoder.proofs.Naturals.{nat_below, split_word, uint_is, signed_word, zipped_and, zipped_or, zipped_xor}

@@ -1,16 +1,15 @@
 -- Lists of bits as numbers that aren't negative.
-use Rattle.std.proofs.Common.{ℕ, zero, suc, ℤ, pos, negsuc, neg_ℤ, ◌+ℤ◌, ◌-ℤ◌, ◌*ℤ◌, Bool, true, false, ◌&&◌, ◌||◌, if◌then◌else◌, ◌≡◌, ◌∙◌, sym, ap, refl, subst, arith, ◌<◌, ◌≤◌, ◌+◌, ◌-◌, ◌*◌, ◌/◌, ◌%◌, ◌^◌, min, max, nat_lt, bit_and, bit_or, bit_xor, List, [], ◌∷◌, ◌++◌, length, take, drop, replicate, Some}
+use Rattle.std.proofs.Common.{ℕ, zero, suc, ℤ, pos, negsuc, neg_ℤ, ◌+ℤ◌, ◌-ℤ◌, ◌*ℤ◌, Bool, true, false, ◌&&◌, ◌||◌, ◌≡◌, ◌∙◌, sym, ap, refl, arith, ◌<◌, ◌≤◌, ◌+◌, ◌*◌, ◌/◌, ◌%◌, ◌^◌, min, max, bit_and, bit_or, bit_xor, List, [], ◌∷◌, length, take, drop, Some}
 use Rattle.std.specs.Int.{bit_at}
 use Rattle.std.proofs.lemmas.Nat.Bits.{bit_at-zero, bit_at-suc, bit_at_lowest, bit_at_and, bit_at_or, bit_at_xor, same_from_bits}
-use Rattle.std.proofs.Math.Nat.{pow-succ', pow-suc}
+use Rattle.std.proofs.Math.Nat.{pow-succ'}
 use Rattle.std.proofs.Math.IntN.{*ℤ_comm, *ℤ-zero, pos-*ℤ-pos, pos-*ℤ-negsuc}
 use Rattle.bit_words.proofs.Rows.{dist, one_more}
 use Rattle.std.proofs.lemmas.Int.{ints}
-use Rattle.js_values.specs.Numbers.{to_uint32, signed, all_bits, bitwise}
+use Rattle.js_values.specs.Numbers.{to_uint32, signed}
 use Rattle.bit_words.specs.Builds.{differ}
 use Rattle.bit_words.specs.Words.{bit_int, int_of, zip_bits}
 use Rattle.int_encoder.specs.Bits.{nat_bit, nat_of}
-use Rattle.bit_words.proofs.Numbers.{int_of-more}
 
 odd_rest : (x : Bool) (n : ℕ) → (nat_bit x + 2 * n) % 2 ≡ nat_bit x
 odd_rest true n = omega arith

@@ -1,22 +1,21 @@
 -- Shifts, stage by stage.
-use Rattle.std.proofs.Common.{ℕ, zero, suc, ℤ, pos, negsuc, neg_ℤ, ◌+ℤ◌, ◌-ℤ◌, ◌*ℤ◌, Bool, true, false, if◌then◌else◌, ◌≡◌, ◌∙◌, sym, ap, refl, subst, arith, ◌<◌, ◌≤◌, ◌+◌, ◌-◌, ◌*◌, ◌/◌, ◌%◌, ◌^◌, max, nat_lt, List, [], ◌∷◌, ◌++◌, length, map, take, drop, replicate, get_or, All, Some}
+use Rattle.std.proofs.Common.{ℕ, zero, suc, ℤ, pos, negsuc, ◌+ℤ◌, ◌*ℤ◌, Bool, true, false, if◌then◌else◌, ◌≡◌, ◌∙◌, sym, ap, refl, subst, arith, ◌<◌, ◌≤◌, ◌+◌, ◌-◌, ◌*◌, ◌/◌, ◌%◌, ◌^◌, List, [], ◌∷◌, ◌++◌, length, take, drop, replicate, get_or, Some}
 use Rattle.std.proofs.lemmas.Int.{ints}
 use Rattle.std.proofs.lemmas.List.{length-map, length-take, length-append, length-replicate, map-append}
 use Rattle.std.proofs.lemmas.Nat.{pow-add, mul-mod_first, mod-mul-add, pow_pos}
-use Rattle.std.proofs.Math.Nat.{pow-succ', div-div-eq-div-mul, mod-eq_of_lt}
+use Rattle.std.proofs.Math.Nat.{pow-succ', div-div-eq-div-mul}
 use Rattle.std.proofs.Math.IntN.{pos-*ℤ-pos, pos-*ℤ-negsuc}
-use Rattle.cnf_core.specs.Literals.{Names, lit_true}
-use Rattle.cnf_core.specs.declared.clauses.Cnf.{Cnf}
-use Rattle.js_values.specs.Numbers.{to_uint32, to_int32, signed, all_bits, halved, shift_count}
+use Rattle.cnf_core.specs.Literals.{lit_true}
+use Rattle.js_values.specs.Numbers.{to_uint32, to_int32, signed, halved, shift_count}
 use Rattle.js_values.specs.Integers.{bits_left, bits_right, bits_right_zero}
-use Rattle.bit_words.specs.Builds.{Values, Built}
-use Rattle.bit_words.specs.Words.{IsWord, bits, word_value, int_of, bit_int, padded}
+use Rattle.bit_words.specs.Builds.{Values}
+use Rattle.bit_words.specs.Words.{bits, word_value, int_of, padded}
 use Rattle.std.proofs.Math.Nat.{mul-le-mul, le_refl, mul_comm}
 use Rattle.bit_words.proofs.Rows.{mul_next}
 use Rattle.bit_words.proofs.Lists.{bits-padded, bits-take}
 use Rattle.bit_words.proofs.Numbers.{int_of-more}
 use Rattle.int_encoder.specs.Bits.{low_bits, nat_bit, nat_of, shift_count_of, raised, IsRaised}
-use Rattle.int_encoder.proofs.Naturals.{nat_below, split_word, signed_word, uint_is, pos_same}
+use Rattle.int_encoder.proofs.Naturals.{nat_below, split_word, signed_word, pos_same}
 use Rattle.int_encoder.proofs.Lowest.{low_value, low_length}
 
 -- ---- to the right

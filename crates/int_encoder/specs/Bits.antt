@@ -1,7 +1,7 @@
 -- The lowest 32 bits of words (this project's own).
-use Rattle.std.specs.Prelude.{ℕ, ℤ, ◌+◌, ◌-◌, ◌*◌, ◌%◌, ◌^◌, ◌≡◌, max, Bool, true, false, if◌then◌else◌, List, [], ◌∷◌, length, take, Some}
+use Rattle.std.specs.Prelude.{ℕ, ℤ, ◌+◌, ◌-◌, ◌*◌, ◌%◌, ◌^◌, ◌≡◌, max, Bool, true, false, if◌then◌else◌, List, [], ◌∷◌, length, take}
 use Rattle.cnf_core.specs.Literals.{lit_true}
-use Rattle.js_values.specs.Numbers.{to_uint32, signed, all_bits}
+use Rattle.js_values.specs.Numbers.{signed, all_bits}
 use Rattle.bit_words.specs.Builds.{Values}
 use Rattle.bit_words.specs.Words.{padded, bits, word_value}
 

@@ -1,5 +1,5 @@
 -- The operators on whole numbers that a constraint has, and what each may cost (this project's own).
-use Rattle.std.specs.Prelude.{ℕ, ℤ, pos, Bool, ◌*◌, ◌<◌, ◌≡◌, max, List, [], ◌∷◌, length, map, int_lt, Some, All, ◌+ℤ◌, ◌-ℤ◌, ◌*ℤ◌}
+use Rattle.std.specs.Prelude.{ℕ, ℤ, pos, Bool, ◌*◌, ◌<◌, ◌≡◌, max, List, [], ◌∷◌, length, map, Some, All, ◌+ℤ◌, ◌-ℤ◌, ◌*ℤ◌}
 use Rattle.cnf_core.specs.Literals.{Names, lit_true}
 use Rattle.cnf_core.specs.declared.clauses.Cnf.{Cnf}
 use Rattle.js_values.specs.Numbers.{equal, less, is_safe}

@@ -1,4 +1,4 @@
-use Rattle.std.proofs.Common.{ℕ, ℤ, List, ◌≡◌, ◌∙◌, arith, length, All, ◌≤◌}
+use Rattle.std.proofs.Common.{arith}
 use Rattle.bit_words.specs.Joins.{gate_value}
 use Rattle.int_encoder.proofs.Lowest.{low_names, joined_lowest}
 use Rattle.int_encoder.proofs.bitwise.join_lowest.Goals as goal

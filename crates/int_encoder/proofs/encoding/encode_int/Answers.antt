@@ -1,10 +1,9 @@
-use Rattle.std.proofs.Common.{ℕ, ℤ, List, Bool, ◌≡◌, ◌∙◌, ap, sym, rules, arith, length, max, ◌-◌, ◌+◌, ◌*◌, ◌≤◌, ◌<◌, [], ◌∷◌, refl, subst, All, ◌+ℤ◌, ◌-ℤ◌, ◌*ℤ◌, int_lt, int_le, get_or}
+use Rattle.std.proofs.Common.{◌≡◌, ◌∙◌, ap, arith, length, ◌-◌, ◌<◌, [], ◌∷◌, refl, ◌+ℤ◌, ◌-ℤ◌, ◌*ℤ◌, int_lt}
 use Rattle.std.specs.Ordering.{int_eq}
 use Rattle.js_values.specs.Numbers.{is_safe}
 use Rattle.js_values.specs.Integers.{quotient, rest, safe, bits_and, bits_or, bits_xor, bits_left, bits_right, bits_right_zero}
-use Rattle.int_encoder.specs.declared.op.IntOp.{IntOp}
 use Rattle.int_encoder.specs.declared.op.IntOp.TheVariants as op
-use Rattle.int_encoder.specs.Rows.{whole, truth, IsPart, part_count, own_cost, widest}
+use Rattle.int_encoder.specs.Rows.{truth, part_count}
 use Rattle.int_encoder.proofs.Encoded.{two_of, one_of, part_at, word_row, flag_row, word_row_one, flag_row_one, eq_same, cost_mul, cost_quot, cost_rest}
 use Rattle.int_encoder.proofs.Lowest.{and_word, or_word, xor_word}
 use Rattle.int_encoder.proofs.encoding.encode_int.Goals as goal

@@ -1,14 +1,6 @@
-use Rattle.std.proofs.Common.{ℕ, ℤ, List, Bool, ◌≡◌, ◌∙◌, ap, sym, rules, arith, length, max, ◌-◌, ◌+◌, ◌*◌, ◌≤◌, ◌<◌, ◌++◌, [], ◌∷◌, refl, take, drop, subst, All, true, false, get_or, if◌then◌else◌}
-use Rattle.std.proofs.lemmas.List.{length-append, length-drop, length-take}
-use Rattle.std.proofs.lemmas.List.Elements.{All-append}
-use Rattle.cnf_core.specs.Literals.{Names, lit_true}
-use Rattle.bit_words.specs.Words.{padded, bits, word_value}
-use Rattle.bit_words.specs.Builds.{Values, Built, IsGate}
-use Rattle.bit_words.proofs.Lists.{padded_names, take_names, drop_names, name_at}
-use Rattle.bit_words.proofs.Composed.{built_as, built_both, built_then, named_one, name_of}
-use Rattle.bit_words.proofs.Within.{names_later, all_later}
-use Rattle.int_encoder.specs.Bits.{low_bits, IsRaised}
-use Rattle.int_encoder.proofs.Lowest.{low_names, low_length}
+use Rattle.std.proofs.Common.{arith}
+use Rattle.bit_words.proofs.Composed.{built_as}
+use Rattle.int_encoder.proofs.Lowest.{low_names}
 use Rattle.int_encoder.proofs.Shifting.{right_value}
 use Rattle.int_encoder.proofs.shifts.shift_right.Goals as goal
 

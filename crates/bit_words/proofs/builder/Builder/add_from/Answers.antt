@@ -1,4 +1,4 @@
-use Rattle.std.proofs.Common.{ℕ, ℤ, List, ◌≡◌, ◌∙◌, ap, sym, rules, arith, length, ◌-◌, ◌+◌, ◌*◌, max}
+use Rattle.std.proofs.Common.{ℕ, ◌≡◌, ◌∙◌, ap, arith, length, ◌-◌, ◌+◌, max}
 use Rattle.bit_words.specs.Words.{padded}
 use Rattle.bit_words.proofs.Adding.{sum_word}
 use Rattle.bit_words.proofs.Lists.{padded_names}

@@ -1,4 +1,4 @@
-use Rattle.std.proofs.Common.{◌≡◌, ◌*◌, ◌+◌, ◌∷◌, [], length, drop}
+use Rattle.std.proofs.Common.{◌*◌, ◌+◌, ◌∷◌, [], drop}
 use Rattle.bit_words.specs.Builds.{Built}
 use Rattle.bit_words.proofs.Equal.{Agreeing}
 use Rattle.bit_words.proofs.builder.Builder.all_agree.Given as goal

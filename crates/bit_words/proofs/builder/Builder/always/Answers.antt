@@ -1,4 +1,4 @@
-use Rattle.std.proofs.Common.{refl, ◌≡◌, true, not, false, ap, ◌∙◌, arith}
+use Rattle.std.proofs.Common.{not, ap, ◌∙◌, arith}
 use Rattle.bit_words.proofs.Composed.{built_as, named_one, name_of}
 use Rattle.bit_words.proofs.Opposites.{opposite_value, opposite_names}
 use Rattle.cnf_core.specs.Literals.{lit_true}

@@ -1,5 +1,3 @@
-use Rattle.std.proofs.Common.{◌≡◌, true, false, Bool, ◌||◌, ◌∙◌, sym, refl, ap, List, [], ◌∷◌, ◌++◌, ℤ, ℕ, zero, suc, ◌+◌, ◌<◌, All, subst, arith, ◌↔◌}
-use Rattle.cnf_core.specs.Literals.{lit_true, Solves}
 use Rattle.bit_words.proofs.Asserted.{asserted}
 use Rattle.bit_words.proofs.builder.Builder.assert_lit.Goals as goal
 

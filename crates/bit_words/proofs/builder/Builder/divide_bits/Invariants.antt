@@ -1,4 +1,4 @@
-use Rattle.std.proofs.Common.{◌≡◌, ◌*◌, ◌+◌, ◌-◌, ◌∷◌, [], length, drop, false, All, pos, ◌<ℤ◌}
+use Rattle.std.proofs.Common.{◌≡◌, ◌*◌, ◌+◌, ◌-◌, [], length, drop, false, All, pos, ◌<ℤ◌}
 use Rattle.cnf_core.specs.Literals.{Names, lit_true}
 use Rattle.bit_words.specs.Builds.{Built}
 use Rattle.bit_words.specs.Words.{bits, word_value}

@@ -1,13 +1,9 @@
-use Rattle.std.proofs.Common.{ℕ, ℤ, List, Bool, ◌≡◌, ◌∙◌, ap, sym, rules, arith, length, max, ◌-◌, ◌+◌, ◌*◌, ◌≤◌, ◌<◌, ◌++◌, [], ◌∷◌, refl, get_or, drop, take, subst, neg_ℤ, not, All, true, false, ◌||◌, ◌&&◌, if◌then◌else◌, add-one}
-use Rattle.std.proofs.lemmas.List.{length-append, drop_all, length-drop}
-use Rattle.cnf_core.specs.Literals.{Names, lit_true}
-use Rattle.bit_words.specs.Words.{padded, bits, word_value}
-use Rattle.bit_words.specs.Builds.{Values, Built, IsGate, differ}
-use Rattle.bit_words.proofs.Lists.{next_left, name_at, padded_names, drop_names}
-use Rattle.bit_words.proofs.Composed.{stands_built, built_as, built_both, named_one, named_none, name_of}
-use Rattle.bit_words.proofs.Within.{names_later, all_later}
-use Rattle.bit_words.proofs.Opposites.{opposite_names, opposite_value}
-use Rattle.bit_words.proofs.Standing.{stands_both}
+use Rattle.std.proofs.Common.{ℤ, List, sym, arith, length, ◌-◌, ◌∷◌, subst, neg_ℤ, All}
+use Rattle.cnf_core.specs.Literals.{Names}
+use Rattle.bit_words.proofs.Lists.{name_at}
+use Rattle.bit_words.proofs.Composed.{built_both}
+use Rattle.bit_words.proofs.Within.{names_later}
+use Rattle.bit_words.proofs.Opposites.{opposite_names}
 use Rattle.bit_words.proofs.Dividing.{step_word}
 use Rattle.bit_words.proofs.Composed.{named_more}
 use Rattle.bit_words.proofs.Lists.{take_names}
@@ -20,8 +16,8 @@ returns-clause-step c =
     let diff = c.in_ok-difference.difference in
     let less = c.sign-less.result in
     let some = c.in_ok-difference.ensures.word.some in
-    let nl = name_at _ _ diff (length diff - 1) less g.names (omega (arith, some)) c.sign-less.ensures (omega arith) in
-    let nl' = names_later _ _ less nl h.variables in
+    let nl = name_at c.subtract_from.new.self.variables c.subtract_from.new.self.variables diff (length diff - 1) less g.names (omega (arith, some)) c.sign-less.ensures (omega arith) in
+    let nl' = names_later c.subtract_from.new.self.variables c.choose_words.new.self.variables less nl h.variables in
     let n = c.choose_words.new.self.variables in
     let P : ℤ → Type 0 = λ z. All (Names n) (z ∷ c.in_ok-rest.rest) in
     let Q : List ℤ → Type 0 = λ l. All (Names n) l in

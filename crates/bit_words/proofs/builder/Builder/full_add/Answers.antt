@@ -1,7 +1,7 @@
-use Rattle.std.proofs.Common.{ℤ, List, ◌≡◌, ◌∙◌, ap, arith, if◌then◌else◌, [], ◌∷◌}
+use Rattle.std.proofs.Common.{◌∙◌, ap, arith, if◌then◌else◌, [], ◌∷◌}
 use Rattle.cnf_core.specs.Literals.{lit_true}
 use Rattle.bit_words.specs.Builds.{differ}
-use Rattle.bit_words.proofs.Composed.{built_both, built_then, named_more, named_one, name_of}
+use Rattle.bit_words.proofs.Composed.{built_both, built_then, named_more, name_of}
 use Rattle.bit_words.proofs.Within.{names_later}
 use Rattle.bit_words.proofs.builder.Builder.full_add.Goals as goal
 

@@ -1,12 +1,7 @@
-use Rattle.std.proofs.Common.{ℕ, ℤ, List, Bool, ◌≡◌, ◌∙◌, ap, sym, rules, arith, length, max, ◌-◌, ◌+◌, ◌*◌, ◌≤◌, ◌<◌, ◌++◌, [], ◌∷◌, refl, get_or, drop, take, subst, neg_ℤ, not, All, true, false, ◌||◌, ◌&&◌, if◌then◌else◌, add-one}
-use Rattle.std.proofs.lemmas.List.{length-append, drop_all, length-drop}
-use Rattle.cnf_core.specs.Literals.{Names, lit_true}
-use Rattle.bit_words.specs.Words.{padded, bits, word_value}
-use Rattle.bit_words.specs.Builds.{Values, Built, IsGate, differ}
-use Rattle.bit_words.proofs.Lists.{next_left, name_at, padded_names}
-use Rattle.bit_words.proofs.Composed.{stands_built, built_as, built_both, named_one, name_of}
+use Rattle.std.proofs.Common.{Bool, ◌≡◌, ◌∙◌, ap, arith, refl, not, true, false, ◌||◌, ◌&&◌}
+use Rattle.cnf_core.specs.Literals.{lit_true}
+use Rattle.bit_words.proofs.Composed.{built_as, named_one, name_of}
 use Rattle.bit_words.proofs.Opposites.{opposite_names, opposite_value}
-use Rattle.bit_words.proofs.Standing.{stands_both}
 use Rattle.bit_words.proofs.builder.Builder.gate_or.Goals as goal
 
 de_morgan : (a b : Bool) → not (not a && not b) ≡ (a || b)

@@ -1,4 +1,4 @@
-use Rattle.std.proofs.Common.{◌≡◌, ◌*◌, ◌+◌, ◌∷◌, [], length, drop}
+use Rattle.std.proofs.Common.{◌≡◌, length, drop}
 use Rattle.bit_words.specs.Builds.{Built}
 use Rattle.bit_words.specs.Joins.{gate_value}
 use Rattle.bit_words.proofs.Zipped.{Zipping}

@@ -1,4 +1,4 @@
-use Rattle.std.proofs.Common.{ℤ, List, ◌≡◌, ◌∙◌, ap, rules, arith}
+use Rattle.std.proofs.Common.{arith}
 use Rattle.bit_words.proofs.Tables.{pushed_four, xor_gate}
 use Rattle.bit_words.proofs.builder.Builder.gate_xor.Goals as goal
 

@@ -1,4 +1,4 @@
-use Rattle.std.proofs.Common.{◌≡◌, ◌*◌, ◌+◌, ◌∷◌, [], length, drop}
+use Rattle.std.proofs.Common.{◌+◌, ◌∷◌, [], drop}
 use Rattle.bit_words.specs.Builds.{Built}
 use Rattle.bit_words.proofs.Less.{Lesser}
 use Rattle.bit_words.proofs.builder.Builder.is_less.Given as goal

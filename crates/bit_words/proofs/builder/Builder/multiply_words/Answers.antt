@@ -1,15 +1,12 @@
-use Rattle.std.proofs.Common.{ℕ, ℤ, List, Bool, ◌≡◌, ◌∙◌, ap, sym, rules, arith, length, max, ◌-◌, ◌+◌, ◌*◌, ◌≤◌, ◌<◌, ◌++◌, [], ◌∷◌, refl, get_or, drop, take, subst, neg_ℤ, not, All, true, false, ◌||◌, ◌&&◌, if◌then◌else◌, add-one}
+use Rattle.std.proofs.Common.{ℕ, ◌≡◌, ◌∙◌, ap, arith, length, ◌-◌, ◌+◌, ◌*◌, ◌<◌, [], ◌∷◌, drop}
 use Rattle.std.proofs.lemmas.List.{length-append, drop_all, length-drop}
 use Rattle.std.proofs.lemmas.List.Elements.{All-append}
-use Rattle.cnf_core.specs.Literals.{Names, lit_true}
-use Rattle.bit_words.specs.Words.{padded, bits, word_value}
-use Rattle.bit_words.specs.Builds.{Values, Built, IsGate, differ}
+use Rattle.cnf_core.specs.Literals.{Names}
 use Rattle.bit_words.proofs.Lists.{next_left, name_at, padded_names, drop_names}
-use Rattle.bit_words.proofs.Composed.{stands_built, built_as, built_both, named_one, named_none, name_of}
+use Rattle.bit_words.proofs.Composed.{stands_built, built_as, named_one, named_none, name_of}
 use Rattle.bit_words.proofs.Within.{names_later, all_later}
-use Rattle.bit_words.proofs.Opposites.{opposite_names, opposite_value}
 use Rattle.bit_words.proofs.Standing.{stands_both}
-use Rattle.bit_words.proofs.Rows.{Rowing, rowing_none, none_word, rows_step, rows_all, mul_more, mul_next}
+use Rattle.bit_words.proofs.Rows.{rowing_none, none_word, rows_step, rows_all, mul_next}
 use Rattle.bit_words.proofs.builder.Builder.multiply_words.Goals as goal
 
 pub rows-init : goal.rows-init

@@ -1,4 +1,4 @@
-use Rattle.std.proofs.Common.{◌≡◌, ◌*◌, ◌+◌, ◌∷◌, [], length, drop, false, All}
+use Rattle.std.proofs.Common.{◌≡◌, ◌*◌, ◌+◌, [], length, drop, false, All}
 use Rattle.cnf_core.specs.Literals.{Names, lit_true}
 use Rattle.bit_words.specs.Builds.{Built}
 use Rattle.bit_words.proofs.Rows.{Rowing}

@@ -1,8 +1,8 @@
-use Rattle.std.proofs.Common.{ℤ, pos, List, ◌≡◌, ◌∙◌, ap, sym, subst, arith, length, ◌+◌, ◌≤◌, ◌++◌, [], ◌∷◌, All}
+use Rattle.std.proofs.Common.{ℤ, List, ◌∙◌, ap, sym, subst, arith, length, ◌+◌, [], ◌∷◌, All}
 use Rattle.std.proofs.lemmas.List.{length-append}
 use Rattle.std.proofs.lemmas.List.Elements.{All-append}
 use Rattle.cnf_core.specs.Literals.{Names}
-use Rattle.bit_words.proofs.Composed.{named_one, named_none}
+use Rattle.bit_words.proofs.Composed.{named_one}
 use Rattle.bit_words.proofs.Within.{all_later}
 use Rattle.bit_words.proofs.builder.Builder.new_word.Goals as goal
 

@@ -1,6 +1,6 @@
-use Rattle.std.proofs.Common.{ℤ, List, ◌≡◌, ◌∙◌, ap, sym, rules, arith, length, ◌-◌, ◌+◌, ◌*◌, ◌++◌, [], ◌∷◌, refl, get_or, drop, subst}
+use Rattle.std.proofs.Common.{◌∙◌, ap, arith, length, ◌+◌, [], ◌∷◌}
 use Rattle.std.proofs.lemmas.List.{length-append, drop_all}
-use Rattle.bit_words.proofs.Adding.{Summing, summing_none, summing_step, summing_all}
+use Rattle.bit_words.proofs.Adding.{summing_none, summing_step, summing_all}
 use Rattle.bit_words.proofs.Lists.{next_left, name_at}
 use Rattle.bit_words.proofs.Composed.{stands_built}
 use Rattle.bit_words.proofs.Standing.{stands_both}

@@ -1,8 +1,7 @@
-use Rattle.std.proofs.Common.{ℤ, List, ◌≡◌, arith, length, ◌+◌, ◌*◌, max, map, neg_ℤ, ap, ◌∙◌, ◌≤◌}
+use Rattle.std.proofs.Common.{◌≡◌, arith, length, neg_ℤ, ap, ◌∙◌}
 use Rattle.std.proofs.lemmas.List.{length-map}
 use Rattle.bit_words.proofs.Adding.{difference_word}
 use Rattle.bit_words.proofs.Lists.{opposites_names}
-use Rattle.bit_words.proofs.Opposites.{opposite_names}
 use Rattle.bit_words.proofs.builder.Builder.subtract_from.Goals as goal
 
 pub add_from-requires-clause-b : goal.add_from-requires-clause-b

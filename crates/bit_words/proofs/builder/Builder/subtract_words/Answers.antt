@@ -1,4 +1,4 @@
-use Rattle.std.proofs.Common.{ℤ, ◌≡◌, arith, length, ◌+◌, ◌*◌, max, ◌+ℤ◌, ◌-ℤ◌}
+use Rattle.std.proofs.Common.{arith, ◌-ℤ◌}
 use Rattle.bit_words.specs.Words.{word_value}
 use Rattle.bit_words.proofs.Adding.{never_borrowed}
 use Rattle.bit_words.proofs.builder.Builder.subtract_words.Goals as goal

@@ -1,6 +1,6 @@
-use Rattle.std.proofs.Common.{ℕ, ℤ, List, ◌≡◌, ◌∙◌, ap, sym, arith, length, ◌-◌, ◌+◌, ◌++◌, [], ◌∷◌, replicate, append_assoc, rules}
+use Rattle.std.proofs.Common.{ℕ, ◌≡◌, ◌∙◌, ap, sym, arith, length, ◌-◌, ◌+◌, ◌++◌, [], ◌∷◌, replicate, append_assoc}
 use Rattle.std.proofs.lemmas.Grind.{replicate_next}
-use Rattle.bit_words.specs.Words.{padded, word_value}
+use Rattle.bit_words.specs.Words.{word_value}
 use Rattle.bit_words.proofs.Lists.{padded_is, extended_value}
 use Rattle.bit_words.proofs.words.BitInt.extended.Goals as goal
 

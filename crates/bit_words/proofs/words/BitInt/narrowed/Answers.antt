@@ -1,4 +1,4 @@
-use Rattle.std.proofs.Common.{ℤ, List, ◌≡◌, ◌∙◌, ap, take, rules}
+use Rattle.std.proofs.Common.{◌≡◌, ◌∙◌, ap, take, rules}
 use Rattle.bit_words.specs.Words.{word_value}
 use Rattle.bit_words.proofs.Lists.{narrowed_value, narrowed_fits}
 use Rattle.bit_words.proofs.words.BitInt.narrowed.Goals as goal

@@ -1,4 +1,4 @@
-use Rattle.std.proofs.Common.{ℕ, ℤ, List, ◌≡◌, length, ◌<◌, subst, sym, arith, map}
+use Rattle.std.proofs.Common.{ℕ, subst}
 use Rattle.std.proofs.lemmas.List.{length-map}
 use Rattle.cnf_core.specs.Literals.{lit_true}
 use Rattle.bit_words.specs.Words.{bits, int_of, FitsIn}
