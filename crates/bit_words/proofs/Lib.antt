@@ -1,0 +1,14 @@
+pub mod Standing
+pub mod Within
+pub mod Composed
+pub mod Opposites
+pub mod Tables
+pub mod Asserted
+pub mod Numbers
+pub mod Lists
+pub mod Adding
+pub mod Equal
+pub mod Less
+pub mod Zipped
+pub mod Rows
+pub mod Dividing

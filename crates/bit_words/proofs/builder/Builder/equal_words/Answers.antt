@@ -1,0 +1,14 @@
+use Rattle.std.proofs.Common.{arith}
+use Rattle.bit_words.proofs.Lists.{padded_names}
+use Rattle.bit_words.proofs.Equal.{equal_gate}
+use Rattle.bit_words.proofs.builder.Builder.equal_words.Goals as goal
+
+pub all_agree-requires-clause-a : goal.all_agree-requires-clause-a
+all_agree-requires-clause-a c = rw c.in_ok-left.ensures.bits (padded_names _ _ c.args.a.now c.requires.a)
+
+pub all_agree-requires-clause-b : goal.all_agree-requires-clause-b
+all_agree-requires-clause-b c = rw c.in_ok-right.ensures.bits (padded_names _ _ c.args.b.now c.requires.b)
+
+pub returns-clause-gate : goal.returns-clause-gate
+returns-clause-gate c = equal_gate _ _ _ _ c.max-width.result c.args.a.now c.args.b.now _ _ _ c.requires.some_a c.requires.some_b (omega arith) (omega arith)
+    c.in_ok-left.ensures.bits c.in_ok-right.ensures.bits c.in_ok-agree.ensures.gate (omega (arith, c.in_ok-left.ensures.width))

@@ -1,0 +1,4 @@
+pub mod Builds
+pub mod Words
+pub mod Joins
+pub mod LongDivision
