@@ -11,8 +11,11 @@ use Rattle.js_frames.specs.declared.frames.Frame.TheVariants as frame
 use Rattle.js_frames.specs.declared.frames.Work.{Work}
 use Rattle.js_frames.specs.declared.frames.Work.TheVariants as work
 
+-- chains count no node until their next link is reached, so what waits there costs nothing
 abbrev pub cost_of_part : Part → ℕ
 cost_of_part (part.Gathering g rest) = 16
+cost_of_part (part.LinksLeft ls scope) = 0
+cost_of_part (part.LogicalLeft ls scope) = 0
 cost_of_part (part.LinkRight site op left ls scope) = 14
 cost_of_part (part.IndexKey site is_static base ss scope) = 14
 cost_of_part (part.BuiltinKey site is_static position name ss scope) = 14
@@ -20,7 +23,7 @@ cost_of_part _ = 12
 
 abbrev pub cost_of_frame : Frame → ℕ
 cost_of_frame (frame.Awaits p) = cost_of_part p
-cost_of_frame (frame.Chain ss scope) = 12
+cost_of_frame (frame.Chain ss scope) = 0
 cost_of_frame (frame.TargetBase access g scope) = 14
 cost_of_frame frame.Called = 1
 cost_of_frame (frame.WhileBody l) = 14

@@ -1,6 +1,6 @@
 //! Chains of suffixes: properties, keys in brackets and calls (ECMA-262, section 13.3).
 
-ghost use Rattle.std.specs.Prelude.{◌≡◌, ◌≤◌, ◌<◌, ◌+◌, ◌*◌, ◌∷◌, IfOk, true, false};
+ghost use Rattle.std.specs.Prelude.{◌≡◌, ◌≤◌, ◌<◌, ◌+◌, ◌*◌, ◌∷◌, length, IfOk, true, false};
 ghost use Rattle.term_table.specs.Fitting.{Fits};
 ghost use Rattle.js_ast.specs.declared.parts.Suffix.TheVariants.{Access as AnAccess, Call};
 ghost use Rattle.js_ast.specs.declared.parts.Access.TheVariants.{Property, Index};
@@ -39,7 +39,7 @@ fn property<'a>(
     requires frames { FitFrames state.old frames.old }
     requires reference { InReference (Fits state.old.table) reference }
     ensures leads { IfOk result (λ next. Leads state.old frames.old (λ view st w. on_chain w (AnAccess (Property site name.entry.now) ∷ rest.entry.now) scope (reference_at view reference) (place_of view st)) state.new frames.new next) }
-    ensures falls { IfOk result (λ next. Falls state.old frames.old 15 state.new frames.new (cost_of_work next)) }
+    ensures falls { IfOk result (λ next. Falls state.old frames.old 3 state.new frames.new (cost_of_work next)) }
     ensures earns { IfOk result (λ next. Earns state.old state.new (credits frames.old + 7) (credits frames.new + credit_of_work next)) }
     ensures fits { IfOk result (λ next. FitAll state.new frames.new next) }
 {
@@ -78,7 +78,7 @@ fn index<'a>(
     requires frames { FitFrames state.old frames.old }
     requires base { Fits state.old.table base }
     ensures leads { (this : Value) → IfOk result (λ next. Leads state.old frames.old (λ view st w. on_chain w (AnAccess (Index site is_static key.entry.now) ∷ rest.entry.now) scope (callee (seen_at view base) this) (place_of view st)) state.new frames.new next) }
-    ensures falls { IfOk result (λ next. Falls state.old frames.old 15 state.new frames.new (cost_of_work next)) }
+    ensures falls { IfOk result (λ next. Falls state.old frames.old 3 state.new frames.new (cost_of_work next)) }
     ensures earns { IfOk result (λ next. Earns state.old state.new (credits frames.old + 7) (credits frames.new + credit_of_work next)) }
     ensures fits { IfOk result (λ next. FitAll state.new frames.new next) }
 {
@@ -110,7 +110,7 @@ fn builtin_index<'a>(
 ) -> Result<Work<'a>, NoMemory>
     requires frames { FitFrames state.old frames.old }
     ensures leads { IfOk result (λ next. Leads state.old frames.old (λ view st w. on_chain w (AnAccess (Index site is_static key.entry.now) ∷ rest.entry.now) scope (intrinsic at (builtin_text builtin)) (place_of view st)) state.new frames.new next) }
-    ensures falls { IfOk result (λ next. Falls state.old frames.old 15 state.new frames.new (cost_of_work next)) }
+    ensures falls { IfOk result (λ next. Falls state.old frames.old 3 state.new frames.new (cost_of_work next)) }
     ensures earns { IfOk result (λ next. Earns state.old state.new (credits frames.old + 7) (credits frames.new + credit_of_work next)) }
     ensures fits { IfOk result (λ next. FitAll state.new frames.new next) }
 {
@@ -142,7 +142,7 @@ fn bracket<'a>(
     requires frames { FitFrames state.old frames.old }
     requires reference { InReference (Fits state.old.table) reference }
     ensures leads { IfOk result (λ next. Leads state.old frames.old (λ view st w. on_chain w (AnAccess (Index site is_static key.entry.now) ∷ rest.entry.now) scope (reference_at view reference) (place_of view st)) state.new frames.new next) }
-    ensures falls { IfOk result (λ next. Falls state.old frames.old 15 state.new frames.new (cost_of_work next)) }
+    ensures falls { IfOk result (λ next. Falls state.old frames.old 3 state.new frames.new (cost_of_work next)) }
     ensures earns { IfOk result (λ next. Earns state.old state.new (credits frames.old + 7) (credits frames.new + credit_of_work next)) }
     ensures fits { IfOk result (λ next. FitAll state.new frames.new next) }
 {
@@ -181,7 +181,7 @@ fn call<'a>(
     requires frames { FitFrames state.old frames.old }
     requires reference { InReference (Fits state.old.table) reference }
     ensures leads { IfOk result (λ next. Leads state.old frames.old (λ view st w. on_chain w (Call site arguments.entry.now ∷ rest.entry.now) scope (reference_at view reference) (place_of view st)) state.new frames.new next) }
-    ensures falls { IfOk result (λ next. Falls state.old frames.old 15 state.new frames.new (cost_of_work next)) }
+    ensures falls { IfOk result (λ next. Falls state.old frames.old 3 state.new frames.new (cost_of_work next)) }
     ensures earns { IfOk result (λ next. Earns state.old state.new (credits frames.old + 7) (credits frames.new + credit_of_work next)) }
     ensures fits { IfOk result (λ next. FitAll state.new frames.new next) }
 {
@@ -212,7 +212,7 @@ pub fn chain<'a>(
     requires frames { FitFrames state.old frames.old }
     requires reference { InReference (Fits state.old.table) reference }
     ensures leads { IfOk result (λ next. Leads state.old frames.old (λ view st w. on_chain w suffixes.entry.now scope (reference_at view reference) (place_of view st)) state.new frames.new next) }
-    ensures falls { IfOk result (λ next. Falls state.old frames.old 15 state.new frames.new (cost_of_work next)) }
+    ensures falls { 1 ≤ length suffixes.entry.now → IfOk result (λ next. Falls state.old frames.old 3 state.new frames.new (cost_of_work next)) }
     ensures earns { IfOk result (λ next. Earns state.old state.new (credits frames.old + 7) (credits frames.new + credit_of_work next)) }
     ensures fits { IfOk result (λ next. FitAll state.new frames.new next) }
 {

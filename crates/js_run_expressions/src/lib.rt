@@ -3,6 +3,7 @@
 
 mod chains;
 mod constructing;
+mod expressions;
 mod functions;
 mod lists;
 mod operators;
@@ -11,6 +12,7 @@ mod values;
 
 pub use chains::{builtin_key, chain, index_key};
 pub use constructing::construct;
+pub use expressions::eval;
 pub use functions::{arrow, function};
 pub use lists::{argument, array, element, gather, member, plain};
 pub use operators::{choose, conditional, link, logical, operand, operate, unary};

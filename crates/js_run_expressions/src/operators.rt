@@ -1,6 +1,6 @@
 //! Operators (ECMA-262, sections 13.5 to 13.14).
 
-ghost use Rattle.std.specs.Prelude.{◌≡◌, ◌≤◌, ◌<◌, ◌+◌, ◌*◌, IfOk, true, false};
+ghost use Rattle.std.specs.Prelude.{◌≡◌, ◌≤◌, ◌<◌, ◌+◌, ◌*◌, length, IfOk, true, false};
 ghost use Rattle.term_table.specs.Fitting.{Fits};
 ghost use Rattle.term_table.specs.Views.{View, at as seen_at};
 ghost use Rattle.js_ast.specs.declared.expression.Expr.TheVariants.{Unary, Conditional};
@@ -72,7 +72,7 @@ pub fn link<'a>(
     requires frames { FitFrames state.old frames.old }
     requires value { Fits state.old.table value }
     ensures leads { IfOk result (λ next. Continues state.old frames.old (LinksLeft links.entry scope) value state.new frames.new next) }
-    ensures falls { IfOk result (λ next. Falls state.old frames.old 15 state.new frames.new (cost_of_work next)) }
+    ensures falls { 1 ≤ length links.entry.now → IfOk result (λ next. Falls state.old frames.old 3 state.new frames.new (cost_of_work next)) }
     ensures earns { IfOk result (λ next. Earns state.old state.new (credits frames.old + 7) (credits frames.new + credit_of_work next)) }
     ensures fits { IfOk result (λ next. FitAll state.new frames.new next) }
 {
@@ -141,7 +141,7 @@ pub fn logical<'a>(
     requires frames { FitFrames state.old frames.old }
     requires value { Fits state.old.table value }
     ensures leads { IfOk result (λ next. Continues state.old frames.old (LogicalLeft links.entry scope) value state.new frames.new next) }
-    ensures falls { IfOk result (λ next. Falls state.old frames.old 15 state.new frames.new (cost_of_work next)) }
+    ensures falls { 1 ≤ length links.entry.now → IfOk result (λ next. Falls state.old frames.old 3 state.new frames.new (cost_of_work next)) }
     ensures earns { IfOk result (λ next. Earns state.old state.new (credits frames.old + 7) (credits frames.new + credit_of_work next)) }
     ensures fits { IfOk result (λ next. FitAll state.new frames.new next) }
 {
