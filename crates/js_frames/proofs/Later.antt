@@ -1,5 +1,5 @@
 -- What fits a table fits a longer one; and the last row of a part.
-use Rattle.std.proofs.Common.{◌≡◌, ◌≤◌, List, [], ◌∷◌, ◌++◌, Option, Some, None, refl, sym, ap, subst, arith}
+use Rattle.std.proofs.Common.{◌≡◌, List, [], ◌∷◌, Option, Some, None, refl, sym, ap, subst, arith}
 use Rattle.std.proofs.lemmas.List.{append-nil}
 use Rattle.term_table.specs.declared.term.Term.{Term}
 use Rattle.term_table.specs.declared.term.TermId.{TermId}
@@ -8,8 +8,7 @@ use Rattle.term_table.specs.declared.shadow.Plain.{Plain}
 use Rattle.term_table.specs.Fitting.{Fits, Beside}
 use Rattle.term_table.specs.Growing.{Grown}
 use Rattle.term_table.specs.Views.{View}
-use Rattle.js_meaning.specs.Values.{Place}
-use Rattle.js_meaning.specs.Running.{Completion as Ending, stops, Outcome, done, bind}
+use Rattle.js_meaning.specs.Running.{Outcome, done, bind}
 use Rattle.js_state.specs.declared.completion.Completion.{Completion}
 use Rattle.js_state.specs.declared.completion.Completion.TheVariants as c
 use Rattle.js_state.specs.declared.completion.Reference.{Reference}
@@ -20,13 +19,12 @@ use Rattle.js_state.specs.Seen.{place_of, completion_at}
 use Rattle.js_state.specs.Playing.{Does}
 use Rattle.js_frames.specs.declared.parts.Aim.{Aim}
 use Rattle.js_frames.specs.declared.parts.Aim.TheVariants as aim
-use Rattle.js_frames.specs.declared.parts.Gathered.{Gathered}
 use Rattle.js_frames.specs.declared.parts.Part.{Part}
 use Rattle.js_frames.specs.declared.parts.Part.TheVariants as part
 use Rattle.js_frames.specs.declared.frames.Frame.{Frame}
 use Rattle.js_frames.specs.declared.frames.Frame.TheVariants as frame
-use Rattle.js_frames.specs.Fitting.{InAim, InGathered, InPart, InFrame, FitFrames}
-use Rattle.js_frames.specs.Machine.{Fuel, Goes}
+use Rattle.js_frames.specs.Fitting.{InAim, InPart, InFrame, FitFrames}
+use Rattle.js_frames.specs.Machine.{Goes}
 use Rattle.js_frames.proofs.Steps.{both, stays, still, plays}
 
 -- ---- predicates that one implies

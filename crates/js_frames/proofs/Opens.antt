@@ -7,7 +7,6 @@ use Rattle.js_ast.specs.declared.operators.StepOp.{StepOp}
 use Rattle.js_ast.specs.declared.operators.UnaryOp.{UnaryOp}
 use Rattle.js_ast.specs.declared.parts.Identifier.{Identifier}
 use Rattle.js_ast.specs.declared.parts.Link.{Link}
-use Rattle.js_ast.specs.declared.parts.Access.{Access}
 use Rattle.js_ast.specs.declared.parts.Access.TheVariants as access
 use Rattle.js_ast.specs.declared.parts.Suffix.{Suffix}
 use Rattle.js_ast.specs.declared.parts.Suffix.TheVariants as suffix
@@ -19,18 +18,18 @@ use Rattle.js_ast.specs.declared.expression.Expr.{Expr}
 use Rattle.js_ast.specs.declared.expression.Expr.TheOpen.{Expr-F}
 use Rattle.js_ast.specs.declared.expression.Expr.TheVariants as e
 use Rattle.js_ast.specs.declared.statement.Stmt.{Stmt}
-use Rattle.js_meaning.specs.Values.{Text, Value, object, int, null, truth, Scope, Place, plain, array, statements, expression, Code}
-use Rattle.js_meaning.specs.Running.{Reference, Completion, Outcome, bind, done, given, on_value, on_reference, its_value, leaves, count, play, new_object}
+use Rattle.js_meaning.specs.Values.{Text, Value, Scope, Place, plain, array, statements, expression}
+use Rattle.js_meaning.specs.Running.{Reference, Outcome, bind, done, given, on_value, on_reference, leaves, count, play, new_object}
 use Rattle.js_meaning.specs.Builtins.{Calls, among, error_names, construct}
 use Rattle.js_meaning.specs.Conversions.{to_boolean}
 use Rattle.js_meaning.specs.Objects.{written, add_item, add_property, get_bracket, property_row}
-use Rattle.js_meaning.specs.Operators.{logical_row, goes_on, unary_row}
-use Rattle.js_meaning.specs.Names.{Found, bound, supplied, listed, nowhere, find_name, read_name, read_found}
-use Rattle.js_meaning.specs.Parts.{Meaning, branch, gather, elements, member_key, member_value, members, apply, links, decided, logical_links, settled, invoke, chain, Aim, aim_access, aim, assign, step, make_function}
+use Rattle.js_meaning.specs.Operators.{logical_row, goes_on}
+use Rattle.js_meaning.specs.Names.{Found, bound, supplied, listed, nowhere, find_name, read_name}
+use Rattle.js_meaning.specs.Parts.{Meaning, gather, elements, member_key, member_value, members, apply, links, decided, logical_links, settled, invoke, chain, Aim, aim, assign, step, make_function}
 use Rattle.js_meaning.specs.Blocks.{arrow_code, function_expression}
-use Rattle.js_meaning.specs.Meaning.{Arms, meaning_of, trees_of, of_expr, new_found, new_of, chosen, text_literal, expr, stmt}
-use Rattle.js_meaning.proofs.Opens.{with_expr, with_stmt, opens_expr}
-use Rattle.js_meaning.proofs.Known.{link_with, binary_opens, logical_opens, member_with, object_opens, access_with, suffix_with, call_opens, target_with, step_opens, assign_opens}
+use Rattle.js_meaning.specs.Meaning.{meaning_of, of_expr, new_found, new_of, text_literal, expr}
+use Rattle.js_meaning.proofs.Opens.{with_expr, opens_expr}
+use Rattle.js_meaning.proofs.Known.{link_with, binary_opens, logical_opens, member_with, object_opens, suffix_with, call_opens, target_with, step_opens, assign_opens}
 use Rattle.js_meaning.proofs.KnownStatements.{trees_with}
 
 -- ---- lists of parts

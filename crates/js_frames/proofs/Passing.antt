@@ -1,29 +1,26 @@
 -- What frames do with a completion that they don't wait for, tests, and lists of parts.
-use Rattle.std.proofs.Common.{◌≡◌, ◌≤◌, ◌<◌, ℕ, zero, suc, ◌-◌, Bool, true, false, List, [], ◌∷◌, length, get_or, take, drop, Option, Some, None, Result, Ok, Err, refl, ap, sym, subst, ◌∙◌, arith}
+use Rattle.std.proofs.Common.{◌≡◌, ◌≤◌, ◌<◌, ℕ, suc, ◌-◌, Bool, List, [], ◌∷◌, length, get_or, take, drop, Option, Some, None, Result, Ok, Err, refl, ap, sym, subst, arith}
 use Rattle.std.proofs.lemmas.List.{take_all}
 use Rattle.path_core.specs.declared.path.End.{End}
-use Rattle.js_ast.specs.declared.operators.LogicalOp.{LogicalOp}
 use Rattle.js_ast.specs.declared.parts.Catch.{Catch}
 use Rattle.js_ast.specs.declared.statement.Stmt.{Stmt}
 use Rattle.term_table.specs.declared.shadow.Shadow.{Shadow}
 use Rattle.term_table.specs.declared.shadow.Plain.TheVariants as plain
-use Rattle.term_table.specs.Views.{View, at}
+use Rattle.term_table.specs.Views.{View}
 use Rattle.term_table.proofs.Views.{at_plain}
-use Rattle.js_meaning.specs.Values.{Value, undefined, truth, object, Object, Scope, Place}
+use Rattle.js_meaning.specs.Values.{Value, undefined, object, Object, Scope, Place}
 use Rattle.js_meaning.specs.Objects.{bracket_row, get_bracket}
-use Rattle.js_meaning.specs.Running.{Completion as Ending, callee, given, stops, Outcome, done, bind, play, on_value, on_normal}
+use Rattle.js_meaning.specs.Running.{Completion as Ending, callee, given, Outcome, done, bind, play, on_value, on_normal}
 use Rattle.js_meaning.specs.Conversions.{to_boolean}
-use Rattle.js_meaning.specs.Operators.{test_row, logical_row}
-use Rattle.js_meaning.specs.Parts.{Meaning, branch}
+use Rattle.js_meaning.specs.Parts.{Meaning}
 use Rattle.js_meaning.specs.Loops.{after_body, kept}
 use Rattle.js_meaning.specs.Meaning.{caught, finished, block_of}
 use Rattle.js_state.specs.declared.completion.Completion.{Completion}
 use Rattle.js_state.specs.declared.completion.Completion.TheVariants as c
-use Rattle.js_state.specs.declared.completion.Reference.{Reference}
 use Rattle.js_state.specs.Fitting.{Shadows, InCompletion, IsStop, ErrStops}
 use Rattle.js_state.specs.Held.{Contents}
 use Rattle.js_state.specs.Seen.{place_of, completion_at, MatchResult}
-use Rattle.js_state.specs.Playing.{Does, Hands, told, Quiet}
+use Rattle.js_state.specs.Playing.{Does, told}
 use Rattle.js_frames.specs.declared.frames.Frame.{Frame}
 use Rattle.js_frames.specs.Machine.{Fuel, calling, Goes}
 use Rattle.js_frames.proofs.Steps.{plays, both, stays, still}

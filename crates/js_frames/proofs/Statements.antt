@@ -13,13 +13,13 @@ use Rattle.js_ast.specs.declared.statement.Stmt.{Stmt}
 use Rattle.js_ast.specs.declared.statement.Stmt.TheVariants as s
 use Rattle.js_ast.specs.declared.statement.Arm.{Arm, out-Arm, roll-out-Arm}
 use Rattle.js_meaning.specs.Values.{Scope, Place}
-use Rattle.js_meaning.specs.Running.{Outcome, Completion, bind, done, normal, on_value, count}
+use Rattle.js_meaning.specs.Running.{Outcome, bind, done, normal, on_value, count}
 use Rattle.js_meaning.specs.Names.{init_name}
 use Rattle.js_meaning.specs.Builtins.{Calls}
 use Rattle.js_meaning.specs.Parts.{Meaning, branch}
 use Rattle.js_meaning.specs.Blocks.{Declaration, declaration, is_let, declared_of, open_names, initial, declare, block}
 use Rattle.js_meaning.specs.Loops.{Part, for_loop}
-use Rattle.js_meaning.specs.Meaning.{Arms, meaning_of, block_of, chosen, optional, all_arms, part_of, perhaps, for_declared, for_head, caught, finished, of_stmt, expr, stmt, stmts, arm}
+use Rattle.js_meaning.specs.Meaning.{Arms, meaning_of, block_of, chosen, optional, all_arms, perhaps, for_declared, for_head, caught, finished, of_stmt, expr, stmt, stmts, arm}
 use Rattle.js_meaning.proofs.Opens.{with_expr, with_stmt, with_arm, opens_stmt, opens_arm}
 use Rattle.js_meaning.proofs.KnownStatements.{trees_with, meanings_with, declarator_with, declare_opens}
 use Rattle.js_meaning.proofs.KnownForms.{head_with, for_opens, catch_with, trying, try_opens}

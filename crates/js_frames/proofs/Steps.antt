@@ -1,38 +1,28 @@
 -- Steps of the machine, over what a stack stands for, at every view.
-use Rattle.std.proofs.Common.{◌≡◌, ℕ, zero, suc, ◌≤◌, ◌<◌, ◌-◌, ◌+◌, List, [], ◌∷◌, ◌++◌, Option, Some, None, Result, Ok, Err, refl, ap, ◌∙◌, sym, subst, arith, Bool, true, false, if◌then◌else◌, length, map, take, drop, get_or}
+use Rattle.std.proofs.Common.{◌≡◌, ℕ, zero, suc, ◌≤◌, List, [], ◌∷◌, ◌++◌, Option, Some, None, refl, ap, ◌∙◌, sym, subst, arith, Bool, true, false, if◌then◌else◌}
 use Rattle.std.specs.Option.{option_map}
-use Rattle.std.proofs.lemmas.List.{take_all, append-nil, append_assoc}
+use Rattle.std.proofs.lemmas.List.{append-nil, append_assoc}
 use Rattle.path_core.specs.declared.path.End.{End}
 use Rattle.js_ast.specs.declared.parts.Catch.{Catch}
 use Rattle.js_ast.specs.declared.statement.Stmt.{Stmt}
-use Rattle.term_table.specs.declared.term.Term.{Term}
-use Rattle.term_table.specs.declared.shadow.Shadow.{Shadow}
-use Rattle.term_table.specs.declared.shadow.Plain.TheVariants as plain
 use Rattle.term_table.specs.Growing.{Grown}
-use Rattle.term_table.specs.Views.{View, Values, at}
-use Rattle.term_table.proofs.Views.{at_plain, agrees_before as earlier}
-use Rattle.js_meaning.specs.Values.{Value, undefined, truth, Scope, Place}
-use Rattle.js_meaning.specs.Running.{Reference as Referred, callee, Completion as Ending, given, refers, normal, breaks, continues, returns, throws, stops, Outcome, done, after, bind, play, on_value, on_reference, on_normal, get_value, its_value, Row}
+use Rattle.term_table.specs.Views.{View}
+use Rattle.term_table.proofs.Views.{agrees_before as earlier}
+use Rattle.js_meaning.specs.Values.{Scope, Place}
+use Rattle.js_meaning.specs.Running.{Completion as Ending, stops, Outcome, done, bind}
 use Rattle.js_meaning.specs.Builtins.{Calls}
-use Rattle.js_meaning.specs.Conversions.{to_boolean}
-use Rattle.js_meaning.specs.Operators.{test_row}
-use Rattle.js_meaning.specs.Parts.{Meaning, branch}
-use Rattle.js_meaning.specs.Loops.{after_body, kept}
-use Rattle.js_meaning.specs.Meaning.{caught, finished, returned, block_of}
+use Rattle.js_meaning.specs.Parts.{Meaning}
+use Rattle.js_meaning.specs.Meaning.{caught}
 use Rattle.js_state.specs.declared.completion.Completion.{Completion}
-use Rattle.js_state.specs.declared.completion.Completion.TheVariants as c
-use Rattle.js_state.specs.declared.completion.Reference.{Reference}
-use Rattle.js_state.specs.declared.completion.Reference.TheVariants as ref
 use Rattle.js_state.specs.Held.{Contents}
-use Rattle.js_state.specs.Seen.{place_of, completion_at, reference_at, Agreeing}
-use Rattle.js_state.specs.Playing.{Track, Hands, Does, Level, Still, Quiet, told}
-use Rattle.js_state.proofs.Shown.{bind_after, after_twice, track_then, track_none, track_map}
-use Rattle.js_frames.specs.declared.parts.Part.{Part}
+use Rattle.js_state.specs.Seen.{place_of, completion_at, Agreeing}
+use Rattle.js_state.specs.Playing.{Track, Hands, Does, Still, Quiet}
+use Rattle.js_state.proofs.Shown.{bind_after, track_then, track_none, track_map}
 use Rattle.js_frames.specs.declared.frames.Frame.{Frame}
 use Rattle.js_frames.specs.declared.frames.Frame.TheVariants as frame
 use Rattle.js_frames.specs.declared.frames.Work.{Work}
 use Rattle.js_frames.specs.declared.frames.Work.TheVariants.{Give}
-use Rattle.js_frames.specs.Machine.{Fuel, calling, catch_of, Covers, CoverAll, Means, Goes, Leads, thread, frame_of, part_of, resume}
+use Rattle.js_frames.specs.Machine.{Fuel, calling, catch_of, Covers, CoverAll, Means, Goes, Leads, thread, frame_of, resume}
 
 pub covers_less : {t u : ℕ} {w : Fuel} → u ≤ t → Covers t w → Covers u w
 covers_less l k = record { calls = omega (arith, l, k.calls); loops = omega (arith, l, k.loops) }

@@ -1,6 +1,6 @@
 -- What a control stack stands for, at a view: how it goes on from what a part comes to. Scopes, functions and objects are those
 -- of the state; statements and expressions mean what they mean.
-use Rattle.std.specs.Prelude.{ℕ, suc, ◌+◌, ◌-◌, ◌≤◌, ◌≡◌, ◌++◌, Bool, true, false, if◌then◌else◌, List, [], ◌∷◌, Option, Some, None, map, option_map}
+use Rattle.std.specs.Prelude.{ℕ, suc, ◌≤◌, ◌≡◌, ◌++◌, List, [], ◌∷◌, Option, Some, None, map, option_map}
 use Rattle.path_core.specs.declared.path.Why.TheVariants as why
 use Rattle.js_ast.specs.declared.expression.Expr.{Expr}
 use Rattle.js_ast.specs.declared.statement.Stmt.{Stmt}
@@ -13,9 +13,9 @@ use Rattle.js_ast.specs.declared.parts.Member.{Member}
 use Rattle.js_ast.specs.declared.parts.LoopHead.{LoopHead}
 use Rattle.js_ast.specs.declared.parts.LoopHead.TheVariants as head
 use Rattle.js_ast.specs.declared.parts.Catch.{Catch}
-use Rattle.js_ast.specs.declared.operators.DeclarationKind.TheVariants.{Let, Const}
-use Rattle.js_meaning.specs.Values.{Text, Value, undefined, object, Scope, Place}
-use Rattle.js_meaning.specs.Running.{Reference as Referred, callee, intrinsic, Completion as Ending, given, normal, returns, Outcome, done, bind, on_value, its_value, on_reference, on_normal, throw, leaves, play, count}
+use Rattle.js_ast.specs.declared.operators.DeclarationKind.TheVariants.{Let}
+use Rattle.js_meaning.specs.Values.{Value, undefined, object, Scope, Place}
+use Rattle.js_meaning.specs.Running.{Reference as Referred, callee, intrinsic, Completion as Ending, given, normal, returns, Outcome, done, bind, on_value, its_value, on_reference, on_normal, throw, leaves, play}
 use Rattle.js_meaning.specs.Builtins.{Calls, construct}
 use Rattle.js_meaning.specs.Objects.{written, add_item, add_property, get_bracket}
 use Rattle.js_meaning.specs.Operators.{unary_row}
@@ -23,14 +23,12 @@ use Rattle.js_meaning.specs.Names.{init_name}
 use Rattle.js_meaning.specs.Parts.{Meaning, branch, gather, elements, member_key, members, apply, links, logical_links, invoke, chain, Aim as Aimed, name_aim, property_aim, bracket_aim, aim_access, put_aim, assign, step}
 use Rattle.js_meaning.specs.Blocks.{Declaration, declaration, declared_of, block, run_all, declare}
 use Rattle.js_meaning.specs.Loops.{Part as Does, tested, after_body, again_if, while_loop, do_loop, do_again, next_scope, for_loop, for_again, of_loop, of_start, kept}
-use Rattle.js_meaning.specs.Meaning.{Arms, chosen, optional, caught, finished, returned, gives_nothing, expr, stmt, stmts, arm, calls_in}
-use Rattle.term_table.specs.declared.term.Term.{Term}
+use Rattle.js_meaning.specs.Meaning.{chosen, optional, caught, finished, returned, gives_nothing, expr, stmt, stmts, arm, calls_in}
 use Rattle.term_table.specs.declared.shadow.Shadow.{Shadow}
 use Rattle.term_table.specs.Growing.{Grown}
 use Rattle.term_table.specs.Views.{View, at}
 use Rattle.js_state.specs.declared.closure.Scope.{Scope as Around}
 use Rattle.js_state.specs.declared.completion.Completion.{Completion}
-use Rattle.js_state.specs.declared.completion.Completion.TheVariants as c
 use Rattle.js_state.specs.declared.held.RunMove.{RunMove}
 use Rattle.js_state.specs.Builtins.{builtin_text}
 use Rattle.js_state.specs.Held.{scope_of, Contents}
@@ -42,7 +40,6 @@ use Rattle.js_frames.specs.declared.loops.ForLoop.{ForLoop}
 use Rattle.js_frames.specs.declared.loops.OfLoop.{OfLoop}
 use Rattle.js_frames.specs.declared.parts.Aim.{Aim}
 use Rattle.js_frames.specs.declared.parts.Aim.TheVariants as aim
-use Rattle.js_frames.specs.declared.parts.Gathered.{Gathered}
 use Rattle.js_frames.specs.declared.parts.Goal.{Goal}
 use Rattle.js_frames.specs.declared.parts.Goal.TheVariants as goal
 use Rattle.js_frames.specs.declared.parts.Part.{Part}

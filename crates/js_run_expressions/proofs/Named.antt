@@ -1,11 +1,11 @@
 -- `new`, by what its name is found as.
-use Rattle.std.proofs.Common.{◌≡◌, ℕ, Bool, true, false, Some, List, [], refl, ap, sym, subst, ◌∙◌}
+use Rattle.std.proofs.Common.{◌≡◌, ℕ, Bool, true, false, Some, List, [], refl}
 use Rattle.path_core.specs.declared.path.Why.TheVariants as why
 use Rattle.js_ast.specs.declared.parts.Identifier.{Identifier}
 use Rattle.js_ast.specs.declared.expression.Expr.{Expr}
 use Rattle.js_ast.specs.declared.operators.BinaryOp.{BinaryOp}
 use Rattle.js_ast.specs.declared.operators.StepOp.{StepOp}
-use Rattle.js_meaning.specs.Values.{Text, Value, undefined, Scope, Place}
+use Rattle.js_meaning.specs.Values.{Value, undefined, Scope, Place}
 use Rattle.js_meaning.specs.Running.{Outcome, Completion, done, given, callee, play, bind, on_value, leaves}
 use Rattle.js_meaning.specs.Objects.{get_bracket}
 use Rattle.js_meaning.specs.Operators.{step_row}

@@ -1,5 +1,5 @@
 -- Bindings, as a view sees them.
-use Rattle.std.proofs.Common.{◌≡◌, ◌≤◌, ◌<◌, ◌-◌, ◌+◌, ℕ, zero, suc, Bool, true, false, if◌then◌else◌, List, [], ◌∷◌, ◌++◌, Option, Some, None, map, slice_get, slice_set, slice_index_or, bytes_eq, is_some, refl, sym, ap, ◌∙◌, arith, length}
+use Rattle.std.proofs.Common.{◌≡◌, ◌≤◌, ◌<◌, ◌-◌, ℕ, zero, suc, Bool, true, false, List, [], ◌∷◌, ◌++◌, Option, Some, None, map, slice_get, slice_set, slice_index_or, bytes_eq, is_some, refl, sym, ap, ◌∙◌, arith, length}
 use Rattle.std.specs.Option.{option_map}
 use Rattle.term_table.specs.Views.{View, at}
 use Rattle.term_table.specs.declared.shadow.Shadow.{Shadow}
@@ -11,12 +11,12 @@ use Rattle.term_table.specs.declared.shadow.Plain.{Plain}
 use Rattle.js_meaning.specs.Values.{Value, Scope}
 use Rattle.js_meaning.specs.Running.{Outcome, Completion as Ending, given, stops, done, leaving, stamped, throw_error}
 use Rattle.js_meaning.specs.Loops.{value_found}
-use Rattle.js_meaning.specs.Names.{resolve, binding_of, write_binding, open_cell, inside, bound, put_found, put_mutable}
+use Rattle.js_meaning.specs.Names.{resolve, write_binding, open_cell, inside, bound, put_found, put_mutable}
 use Rattle.js_state.specs.declared.held.Bound.{Bound}
 use Rattle.js_state.specs.Held.{Cell, Contents, cell_of, cells_of}
 use Rattle.js_state.specs.Seen.{binding_at, place_of, input_at}
 use Rattle.term_table.specs.Views.{plain_value}
-use Rattle.js_state.proofs.Lists.{map_get, map_set, map_push, length_map, get_in, some_get}
+use Rattle.js_state.proofs.Lists.{map_get, map_set, map_push, length_map, some_get}
 
 -- ---- cells, of names and values
 

@@ -1,5 +1,5 @@
 -- Properties of values, by the kind of the value.
-use Rattle.std.proofs.Common.{◌≡◌, ℕ, Err, Bool, true, false, if◌then◌else◌, List, [], ◌∷◌, length, pos, bytes_eq, Option, Some, None, refl, sym, ap, subst, ◌∙◌, arith, codes}
+use Rattle.std.proofs.Common.{◌≡◌, ℕ, Err, List, [], refl, sym, ap, ◌∙◌}
 use Rattle.path_core.specs.declared.path.ErrorName.TheVariants as kind
 use Rattle.term_table.specs.declared.term.Term.{Term}
 use Rattle.term_table.specs.declared.shadow.Plain.{Plain}
@@ -8,10 +8,9 @@ use Rattle.term_table.specs.declared.shadow.Shadow.{Shadow}
 use Rattle.term_table.specs.Fitting.{Fits}
 use Rattle.term_table.specs.Views.{View, at, plain_value}
 use Rattle.js_ops.proofs.Shown.{at_fit}
-use Rattle.js_meaning.specs.Values.{Text, Value, undefined, int, object, Object}
-use Rattle.js_meaning.specs.Running.{Row, raises}
-use Rattle.js_meaning.specs.Objects.{get_row, get_own, object_at, other, holds, Written, set_row, set_in, set_leaves}
-use Rattle.js_state.specs.declared.shadows.Base.{Base}
+use Rattle.js_meaning.specs.Values.{Text, Value, Object}
+use Rattle.js_meaning.specs.Running.{raises}
+use Rattle.js_meaning.specs.Objects.{get_row, get_own, object_at, other, set_row, set_in, set_leaves}
 use Rattle.js_state.specs.declared.shadows.Base.TheVariants as base
 use Rattle.js_state.specs.Bases.{IsBase}
 

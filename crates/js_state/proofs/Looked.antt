@@ -1,12 +1,12 @@
 -- Objects and properties that are looked up, as a view sees them.
-use Rattle.std.proofs.Common.{◌≡◌, ℕ, zero, suc, Bool, true, false, List, [], ◌∷◌, ◌++◌, map, length, slice_index_or, slice_get, slice_set, bytes_eq, Option, Some, None, refl, sym, ap, subst, ◌∙◌, arith}
+use Rattle.std.proofs.Common.{◌≡◌, ℕ, zero, suc, Bool, true, false, List, [], ◌∷◌, map, slice_index_or, slice_get, bytes_eq, Option, Some, refl, sym, ap, subst, ◌∙◌, arith}
 use Rattle.std.specs.Option.{option_map}
 use Rattle.std.specs.Map.{lookup}
 use Rattle.term_table.specs.declared.shadow.Shadow.{Shadow}
 use Rattle.term_table.specs.Views.{View, at}
 use Rattle.js_heap.specs.declared.class.Class.TheVariants.{Plain}
 use Rattle.js_heap.specs.Contents.{Object as Parts, bare_object}
-use Rattle.js_meaning.specs.Values.{Text, Value}
+use Rattle.js_meaning.specs.Values.{Text}
 use Rattle.js_meaning.specs.Loops.{item_at}
 use Rattle.js_meaning.specs.Objects.{look_up, object_at as object_in}
 use Rattle.js_state.specs.declared.closure.Closure.{Closure}

@@ -1,5 +1,5 @@
 -- An answer that was taken up does what its row is.
-use Rattle.std.proofs.Common.{◌≡◌, ◌≤◌, ◌<◌, ◌-◌, ◌+◌, ℕ, Bool, true, false, List, [], ◌∷◌, ◌++◌, Option, Some, None, slice_get, refl, sym, ap, subst, ◌∙◌, arith}
+use Rattle.std.proofs.Common.{◌≡◌, ◌-◌, ℕ, Bool, true, false, List, [], ◌∷◌, ◌++◌, Option, Some, None, slice_get, refl, sym, ap, subst, ◌∙◌}
 use Rattle.std.proofs.lemmas.List.{append-nil, append_assoc}
 use Rattle.path_core.specs.declared.path.End.{End}
 use Rattle.path_core.specs.declared.path.End.TheVariants.{Cut}
@@ -19,17 +19,16 @@ use Rattle.js_meaning.specs.Operators.{branch_row}
 use Rattle.term_table.specs.declared.moves.Move.{Move}
 use Rattle.term_table.specs.declared.shadow.Shadow.{Shadow}
 use Rattle.term_table.specs.Growing.{Grown}
-use Rattle.term_table.specs.Views.{View, Valuation, Values, Agrees, at, passes, holds, bit}
-use Rattle.term_table.specs.Walking.{Then, Passing, Failing, Walk, EndsRow, Stopped}
+use Rattle.term_table.specs.Views.{View, Values, Agrees, at, holds, bit}
+use Rattle.term_table.specs.Walking.{Failing, Walk, EndsRow, Stopped}
 use Rattle.js_meaning.specs.Values.{Place, truth}
-use Rattle.js_meaning.specs.Running.{passed, made, gives, giving, ends, raises, Row, Completion as Ending, stops, Outcome, done, bind, stamp, stamped, play, throw_error}
+use Rattle.js_meaning.specs.Running.{made, gives, giving, ends, raises, Row, Completion as Ending, stops, Outcome, done, bind, stamp, stamped, play, throw_error}
 use Rattle.js_state.specs.declared.held.RunMove.{RunMove}
-use Rattle.js_state.specs.declared.held.RunMove.TheVariants as run
 use Rattle.js_state.specs.declared.completion.Completion.{Completion}
 use Rattle.js_state.specs.declared.completion.Completion.TheVariants as c
 use Rattle.js_state.specs.Held.{Contents}
 use Rattle.js_state.specs.Seen.{place_of, completion_at, Agreeing}
-use Rattle.js_state.specs.Playing.{Follow, WalkRun, Track, Hands, Does, stops_there, events_made, failed_kept, taken_up, events_after, cut_by, TakenUp, Still}
+use Rattle.js_state.specs.Playing.{WalkRun, Track, Hands, Does, stops_there, events_made, failed_kept, taken_up, cut_by, TakenUp, Still}
 use Rattle.js_state.proofs.Shown.{bind_after, track_then, track_none, rest_or_cut, behind, own, walked}
 
 pub same_table : (a b : List Term) → b ≡ a → Grown a b

@@ -1,6 +1,6 @@
 -- A row that is walked at a view is walked as it is played.
-use Rattle.std.proofs.Common.{◌≡◌, ◌≤◌, ◌<◌, ◌-◌, ◌+◌, ℕ, Bool, true, false, nat_lt, if◌then◌else◌, List, [], ◌∷◌, ◌++◌, Option, Some, None, refl, sym, ap, subst, ◌∙◌, arith}
-use Rattle.std.proofs.lemmas.List.{append-nil, append_assoc}
+use Rattle.std.proofs.Common.{◌≡◌, ◌-◌, ◌+◌, ℕ, Bool, true, false, nat_lt, List, [], ◌∷◌, ◌++◌, Option, Some, None, refl, sym, ap, subst, ◌∙◌, arith}
+use Rattle.std.proofs.lemmas.List.{append_assoc}
 use Rattle.path_core.specs.declared.path.Event.{Event}
 use Rattle.path_core.specs.declared.path.Event.TheVariants as event
 use Rattle.path_core.specs.declared.path.End.{End}
@@ -10,10 +10,10 @@ use Rattle.term_table.specs.declared.term.TermId.{TermId}
 use Rattle.term_table.specs.declared.moves.Move.{Move}
 use Rattle.term_table.specs.declared.moves.Move.TheVariants as move
 use Rattle.term_table.specs.declared.moves.Choice.{Choice}
-use Rattle.term_table.specs.Views.{View, Valuation, passes, holds, seen}
-use Rattle.term_table.specs.Walking.{Then, Passing, Failing, Walk, EndsRow}
+use Rattle.term_table.specs.Views.{View, Valuation, passes, seen}
+use Rattle.term_table.specs.Walking.{Passing, Walk, EndsRow}
 use Rattle.js_meaning.specs.Values.{Place}
-use Rattle.js_meaning.specs.Running.{Item, passed, made, Answer, gives, ends, raises, Row, Completion as Ending, given, stops, Outcome, done, after, bind, stamp, stamped, event_limit, site_of_event, play, play_items}
+use Rattle.js_meaning.specs.Running.{Item, passed, made, Row, Completion as Ending, stops, Outcome, done, after, bind, stamp, stamped, event_limit, site_of_event, play}
 use Rattle.js_meaning.specs.Path.{events_of}
 use Rattle.js_state.specs.declared.held.RunMove.{RunMove}
 use Rattle.js_state.specs.declared.held.RunMove.TheVariants as run

@@ -1,6 +1,5 @@
 -- What moves cost, as they are taken up and as a table grows.
-use Rattle.std.proofs.Common.{◌≡◌, ◌≤◌, ◌+◌, ◌-◌, ℕ, zero, suc, Bool, true, false, nat_lt, if◌then◌else◌, List, [], ◌∷◌, ◌++◌, length, slice_get, Option, Some, None, refl, ap, sym, subst, ◌∙◌, arith}
-use Rattle.std.proofs.lemmas.List.{length-append}
+use Rattle.std.proofs.Common.{◌≡◌, ◌≤◌, ◌+◌, ◌-◌, ℕ, zero, suc, Bool, true, false, nat_lt, if◌then◌else◌, List, [], ◌∷◌, ◌++◌, slice_get, Option, Some, None, ap, arith}
 use Rattle.path_core.specs.declared.path.End.{End}
 use Rattle.path_core.specs.declared.path.Event.{Event}
 use Rattle.term_table.specs.declared.term.Term.{Term}
@@ -11,11 +10,10 @@ use Rattle.term_table.specs.declared.moves.Choice.TheVariants as choice
 use Rattle.term_table.specs.declared.moves.Move.{Move}
 use Rattle.term_table.specs.declared.moves.Move.TheVariants as move
 use Rattle.term_table.specs.declared.outcome.Outcome.{Outcome}
-use Rattle.term_table.specs.Growing.{Grown}
-use Rattle.term_table.specs.Prices.{unless_constant, guard_price, choice_price, moves_price, failed_price, outcome_price, CostsAtMost}
+use Rattle.term_table.specs.Prices.{unless_constant, guard_price, choice_price, moves_price, outcome_price, CostsAtMost}
 use Rattle.js_meaning.specs.Running.{stamp, event_limit}
 use Rattle.js_state.specs.Held.{Contents}
-use Rattle.js_state.specs.Playing.{guard_kept, failed_kept, taken_up, TakenUp, Asked, Still}
+use Rattle.js_state.specs.Playing.{guard_kept, failed_kept, taken_up, TakenUp, Asked}
 use Rattle.js_state.specs.Spending.{run_price, owed, spent, SpendsAtMost}
 use Rattle.js_state.specs.declared.held.RunMove.{RunMove}
 use Rattle.js_state.specs.declared.held.RunMove.TheVariants as run

@@ -1,7 +1,5 @@
 -- Properties and items that are written, as a view sees them.
-use Rattle.std.proofs.Common.{◌≡◌, ◌≤◌, ◌<◌, ◌+◌, ℕ, zero, suc, Bool, true, false, nat_lt, ◌||◌, if◌then◌else◌, List, [], ◌∷◌, ◌++◌, map, length, slice_index_or, slice_get, slice_set, bytes_eq, Option, Some, None, is_some, refl, sym, ap, subst, ◌∙◌, arith}
-use Rattle.std.specs.Option.{option_map}
-use Rattle.std.specs.Map.{lookup}
+use Rattle.std.proofs.Common.{◌≡◌, ◌≤◌, ◌<◌, ◌+◌, ℕ, Bool, true, false, nat_lt, ◌||◌, List, [], ◌∷◌, ◌++◌, map, length, slice_index_or, slice_set, bytes_eq, is_some, refl, sym, ap, ◌∙◌, arith}
 use Rattle.std.proofs.lemmas.List.{length-append}
 use Rattle.std.proofs.lemmas.Bool.{lt-ltb, le-ltb}
 use Rattle.indexmap.specs.IndexMap.{insert_entry}
@@ -12,18 +10,18 @@ use Rattle.term_table.specs.Fitting.{Fits}
 use Rattle.term_table.specs.Views.{View, at}
 use Rattle.js_heap.specs.declared.class.Class.TheVariants.{Plain}
 use Rattle.js_heap.specs.Contents.{Object as Parts, Heap, bare_object, with_properties, with_items}
-use Rattle.js_meaning.specs.Values.{Text, Value, Object, Place}
+use Rattle.js_meaning.specs.Values.{Text, Value, Place}
 use Rattle.js_meaning.specs.Running.{Outcome, Completion as Ending, stops, done, leaving, stamped}
 use Rattle.js_meaning.specs.Objects.{look_up, put, object_at as object_in, with_property, with_item, written, add_property, add_item}
 use Rattle.js_state.specs.declared.closure.Closure.{Closure}
 use Rattle.js_state.specs.declared.held.Bound.{Bound}
 use Rattle.js_state.specs.declared.held.Supplied.{Supplied}
-use Rattle.js_state.specs.Held.{Contents, Held, held_object}
-use Rattle.js_state.specs.Fitting.{Shadows, AllOf, InProperty, InSome, InObject, IsSound}
+use Rattle.js_state.specs.Held.{Contents, held_object}
+use Rattle.js_state.specs.Fitting.{Shadows, AllOf, InProperty, InObject, IsSound}
 use Rattle.js_state.specs.Seen.{place_of, object_at, property_at}
-use Rattle.js_state.specs.Properties.{bare, held_at}
+use Rattle.js_state.specs.Properties.{held_at}
 use Rattle.js_state.proofs.Lists.{map_push, map_set, length_map, length_set, all_push, all_set, all_or}
-use Rattle.js_state.proofs.Looked.{index_map, seen_object, held_index, bare_fits}
+use Rattle.js_state.proofs.Looked.{seen_object, held_index, bare_fits}
 
 -- ---- one property
 

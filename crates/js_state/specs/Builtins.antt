@@ -1,5 +1,5 @@
 -- The texts of built-in names, of their listed properties, and of methods.
-use Rattle.std.specs.Prelude.{ℕ, codes, bytes_eq, Bool, false, ◌||◌, List, [], ◌∷◌}
+use Rattle.std.specs.Prelude.{codes, bytes_eq, Bool, false, ◌||◌, List, [], ◌∷◌}
 use Rattle.js_meaning.specs.Values.{Text}
 use Rattle.js_state.specs.declared.builtins.Builtin.{Builtin}
 use Rattle.js_state.specs.declared.builtins.Builtin.TheVariants as builtin

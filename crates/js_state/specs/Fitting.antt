@@ -11,7 +11,6 @@ use Rattle.js_values.specs.Numbers.{is_safe}
 use Rattle.path_core.specs.declared.bounds.Declared.{Declared}
 use Rattle.path_core.specs.declared.path.InputValue.{InputValue}
 use Rattle.path_core.specs.declared.path.InputValue.TheVariants as input
-use Rattle.js_state.specs.Held.{Contents}
 use Rattle.js_state.specs.declared.held.Bound.{Bound}
 use Rattle.js_state.specs.declared.held.Supplied.{Supplied}
 use Rattle.js_state.specs.declared.completion.Reference.{Reference}

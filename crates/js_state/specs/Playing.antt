@@ -2,8 +2,6 @@
 use Rattle.std.specs.Prelude.{◌≡◌, ◌≤◌, ℕ, ◌+◌, ◌-◌, Bool, true, false, nat_lt, if◌then◌else◌, List, [], ◌∷◌, ◌++◌, Option, Some, None, Result, Ok, Err}
 use Rattle.path_core.specs.declared.path.Event.{Event}
 use Rattle.path_core.specs.declared.path.End.{End}
-use Rattle.path_core.specs.declared.path.End.TheVariants.{Cut}
-use Rattle.path_core.specs.declared.path.Budget.TheVariants as budget
 use Rattle.term_table.specs.declared.term.TermId.{TermId}
 use Rattle.term_table.specs.declared.moves.Move.{Move}
 use Rattle.term_table.specs.declared.moves.Move.TheVariants as move

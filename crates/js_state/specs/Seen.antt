@@ -1,12 +1,9 @@
 -- A state as a view sees it.
-use Rattle.std.specs.Prelude.{◌≡◌, ℕ, ◌+◌, Bool, true, List, [], ◌∷◌, ◌++◌, Option, Some, None, option_map, map, slice_get, unwrap_or, Result, Ok, Err}
-use Rattle.path_core.specs.declared.path.InputValue.{InputValue}
-use Rattle.path_core.specs.declared.path.End.{End}
-use Rattle.term_table.specs.declared.term.Term.{Term}
+use Rattle.std.specs.Prelude.{◌≡◌, ℕ, true, [], Option, Some, None, option_map, map, slice_get, unwrap_or, Result, Ok, Err}
 use Rattle.term_table.specs.declared.shadow.Plain.{Plain}
 use Rattle.term_table.specs.declared.shadow.Shadow.{Shadow}
-use Rattle.term_table.specs.Views.{View, Valuation, Values, at, plain_value}
-use Rattle.js_meaning.specs.Values.{Text, Value, undefined, Binding, Object, Answers, Place}
+use Rattle.term_table.specs.Views.{View, Values, at, plain_value}
+use Rattle.js_meaning.specs.Values.{Text, Value, Binding, Object, Answers, Place}
 use Rattle.js_meaning.specs.Path.{input_value}
 use Rattle.js_meaning.specs.Running.{Reference as Referred, callee, intrinsic, static, method, Completion as Ending, given, refers, normal, breaks, continues, returns, throws, stops, Outcome, done}
 use Rattle.js_state.specs.Builtins.{builtin_text, owner_of, key_of, method_text}

@@ -1,18 +1,9 @@
-use Rattle.std.proofs.Common.{arith, refl, ◌∙◌, ap, sym, rules, subst, true, false, Ok, Err, take, drop, length, ◌-◌}
-use Rattle.term_table.specs.Fitting.{Fits}
+use Rattle.std.proofs.Common.{refl, ◌∙◌, ap}
 use Rattle.term_table.specs.Views.{at}
-use Rattle.js_meaning.specs.Running.{on_value, on_reference, bind, its_value, play, done}
-use Rattle.js_meaning.specs.Operators.{goes_on, logical_row, test_row}
-use Rattle.js_meaning.specs.Conversions.{to_boolean}
-use Rattle.js_meaning.specs.Parts.{decided, elements, members, gather}
-use Rattle.js_meaning.specs.Meaning.{expr, chosen}
-use Rattle.js_state.specs.Held.{scope_of}
 use Rattle.js_state.specs.Seen.{place_of}
-use Rattle.js_frames.specs.Machine.{calling, doing, on_links, on_logical, on_chain, on_member, aimed, part_of}
-use Rattle.js_frames.proofs.Steps.{stays, pushes, leads, both, plays, quiet_both, quiet_of, where_true, where_false, still}
-use Rattle.js_frames.proofs.Passing.{tells, list_none, list_more, stop_fits, err_stops}
-use Rattle.js_frames.proofs.Later.{plays_out, frames_later, frames_same, fits_same, fits_later}
-use Rattle.js_frames.proofs.Opens as opens
+use Rattle.js_frames.specs.Machine.{on_links}
+use Rattle.js_frames.proofs.Steps.{stays, pushes, leads, where_true, where_false, still}
+use Rattle.js_frames.proofs.Passing.{list_none, list_more}
 use Rattle.js_run_expressions.proofs.operators.link.Goals as goal
 
 pub returns-in-empty-clause-leads : goal.returns-in-empty-clause-leads

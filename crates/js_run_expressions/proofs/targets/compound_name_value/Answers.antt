@@ -1,26 +1,10 @@
-use Rattle.std.proofs.Common.{arith, refl, ◌≡◌, map, ◌∙◌, ap, sym, rules, subst, true, false, Ok, Err, take, drop, length, ◌-◌}
-use Rattle.term_table.specs.Fitting.{Fits}
-use Rattle.term_table.specs.Views.{at}
-use Rattle.js_meaning.specs.Running.{on_value, on_reference, bind, its_value, play, done}
-use Rattle.js_meaning.specs.Operators.{goes_on, logical_row, test_row}
-use Rattle.js_meaning.specs.Conversions.{to_boolean}
-use Rattle.js_meaning.specs.Parts.{decided, elements, members, gather}
-use Rattle.js_meaning.specs.Meaning.{expr, chosen}
+use Rattle.std.proofs.Common.{arith, refl, ◌∙◌}
+use Rattle.js_meaning.specs.Running.{on_value}
 use Rattle.js_state.specs.Held.{scope_of}
-use Rattle.js_state.specs.Seen.{place_of, reference_at}
-use Rattle.js_frames.specs.Machine.{calling, doing, on_links, on_logical, on_chain, on_member, aimed, part_of}
-use Rattle.js_frames.proofs.Steps.{stays, pushes, leads, both, plays, quiet_both, quiet_of, where_true, where_false, still}
-use Rattle.js_frames.proofs.Passing.{tells, gives_object, list_none, list_more, stop_fits, err_stops}
-use Rattle.js_frames.proofs.Later.{plays_out, frames_later, frames_same, fits_same, fits_later}
-use Rattle.js_frames.proofs.Opens as opens
+use Rattle.js_frames.proofs.Steps.{stays, leads, both, plays, quiet_of, still}
+use Rattle.js_frames.proofs.Later.{frames_later, frames_same}
 use Rattle.js_state.proofs.Found.{result_ok, result_err}
-use Rattle.js_run_expressions.proofs.Named.{step_stops, compound_stops}
-use Rattle.std.proofs.Common.{None, []}
-use Rattle.js_meaning.specs.Values.{Value, undefined, Place}
-use Rattle.js_meaning.specs.Running.{Outcome, given}
-use Rattle.js_meaning.specs.Operators.{step_row}
-use Rattle.js_meaning.specs.Parts.{name_aim, property_aim, bracket_aim, put_aim, step_value, apply}
-use Rattle.js_frames.specs.Machine.{reached}
+use Rattle.js_meaning.specs.Parts.{name_aim, put_aim}
 use Rattle.js_run_expressions.proofs.targets.compound_name_value.Goals as goal
 
 pub returns-in-Err-clause-leads : goal.returns-in-Err-clause-leads

@@ -1,4 +1,4 @@
-use Rattle.std.proofs.Common.{refl, sym, ap, ◌∙◌, arith}
+use Rattle.std.proofs.Common.{sym, ◌∙◌}
 use Rattle.js_state.proofs.Bindings.{finds_none, finds_no_cell, finds_here, finds_on}
 use Rattle.js_state.proofs.cells.resolve.Goals as goal
 

@@ -1,4 +1,4 @@
-use Rattle.std.proofs.Common.{refl, sym, ap, ◌∙◌, arith}
+use Rattle.std.proofs.Common.{sym, ap, ◌∙◌, arith}
 use Rattle.js_state.proofs.Stored.{item_kept, item_gone}
 use Rattle.js_state.proofs.state.State.add_item.Goals as goal
 

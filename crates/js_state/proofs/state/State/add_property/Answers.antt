@@ -1,4 +1,4 @@
-use Rattle.std.proofs.Common.{refl, sym, ap, ◌∙◌}
+use Rattle.std.proofs.Common.{sym, ap, ◌∙◌}
 use Rattle.js_state.proofs.Stored.{room_kept, room_gone}
 use Rattle.js_state.proofs.state.State.add_property.Goals as goal
 

@@ -1,4 +1,3 @@
-use Rattle.std.proofs.Common.{refl, sym, ap, ◌∙◌, arith}
 use Rattle.js_state.proofs.Bindings.{found, cells_length}
 use Rattle.js_state.proofs.state.State.binding_of.Goals as goal
 

@@ -1,4 +1,3 @@
-use Rattle.std.proofs.Common.{refl, sym, ap, ◌∙◌}
 use Rattle.js_meaning.specs.Objects.{bracket_row}
 use Rattle.js_ops.proofs.Shown.{at_fit}
 use Rattle.js_state.proofs.ByBase.{text_of}

@@ -1,4 +1,4 @@
-use Rattle.std.proofs.Common.{refl, sym, ap, ◌∙◌, rules, ◌≡◌, arith, slice_get}
+use Rattle.std.proofs.Common.{rules, ◌≡◌, arith, slice_get}
 use Rattle.term_table.specs.Views.{bit}
 use Rattle.js_meaning.specs.Operators.{branch_row}
 use Rattle.js_state.proofs.Plays.{does_value, shows_branch, agreed}

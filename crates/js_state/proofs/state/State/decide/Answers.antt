@@ -1,4 +1,4 @@
-use Rattle.std.proofs.Common.{refl, sym, ap, ◌∙◌}
+use Rattle.std.proofs.Common.{refl, ap, ◌∙◌}
 use Rattle.term_table.proofs.Adding.{grown_same}
 use Rattle.js_ops.proofs.Shown.{at_fit}
 use Rattle.js_meaning.specs.Operators.{logical_row}

@@ -1,4 +1,4 @@
-use Rattle.std.proofs.Common.{refl, sym, ap, ◌∙◌}
+use Rattle.std.proofs.Common.{ap, ◌∙◌}
 use Rattle.js_meaning.specs.Running.{play}
 use Rattle.js_state.specs.Seen.{place_of}
 use Rattle.js_state.proofs.ByBase.{of_nothing, of_primitive, of_object}

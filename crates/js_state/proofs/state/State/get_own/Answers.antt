@@ -1,4 +1,3 @@
-use Rattle.std.proofs.Common.{refl, sym, ap, ◌∙◌}
 use Rattle.term_table.specs.declared.shadow.Plain.TheVariants.{Object}
 use Rattle.term_table.proofs.Views.{at_plain}
 use Rattle.js_state.proofs.Looked.{own_class}

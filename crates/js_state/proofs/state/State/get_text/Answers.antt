@@ -1,4 +1,4 @@
-use Rattle.std.proofs.Common.{refl, sym, ap, ◌∙◌, rules}
+use Rattle.std.proofs.Common.{refl}
 use Rattle.js_meaning.specs.Objects.{get_row}
 use Rattle.js_ops.proofs.Shown.{at_fit}
 use Rattle.js_state.proofs.ByBase.{text_of}

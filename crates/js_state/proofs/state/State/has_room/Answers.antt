@@ -1,4 +1,4 @@
-use Rattle.std.proofs.Common.{refl, sym, ap, ◌∙◌}
+use Rattle.std.proofs.Common.{refl}
 use Rattle.js_state.proofs.Looked.{own_looks}
 use Rattle.js_state.proofs.Stored.{own_count}
 use Rattle.js_state.proofs.state.State.has_room.Goals as goal

@@ -1,4 +1,4 @@
-use Rattle.std.proofs.Common.{refl, sym, ap, ◌∙◌, arith}
+use Rattle.std.proofs.Common.{refl, sym, arith}
 use Rattle.js_state.specs.Inside.{contents_of}
 use Rattle.js_state.proofs.Lists.{some_get}
 use Rattle.js_state.proofs.Bindings.{written, cells_length}

@@ -1,4 +1,4 @@
-use Rattle.std.proofs.Common.{◌≡◌, refl, sym, ap, ◌∙◌, arith, ◌<◌, length, Some, is_some}
+use Rattle.std.proofs.Common.{sym, ap, ◌∙◌, arith, is_some}
 use Rattle.js_state.proofs.Lists.{some_get}
 use Rattle.js_state.proofs.Bindings.{cells_get, cells_length, same_value}
 use Rattle.js_state.proofs.state.State.is_initialised.Goals as goal

@@ -1,6 +1,6 @@
-use Rattle.std.proofs.Common.{◌≡◌, refl, sym, ap, ◌∙◌, arith, ◌<◌, length, Some}
+use Rattle.std.proofs.Common.{◌≡◌, sym, ◌∙◌, arith, ◌<◌, length, Some}
 use Rattle.js_state.specs.Held.{Cell}
-use Rattle.js_state.proofs.Lists.{some_get, get_in}
+use Rattle.js_state.proofs.Lists.{get_in}
 use Rattle.js_state.proofs.Bindings.{cells_get, cells_length}
 use Rattle.js_state.proofs.state.State.is_mutable.Goals as goal
 

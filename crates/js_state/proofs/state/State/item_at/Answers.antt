@@ -1,4 +1,4 @@
-use Rattle.std.proofs.Common.{refl, sym, ap, ◌∙◌, length}
+use Rattle.std.proofs.Common.{sym, ap, ◌∙◌, length}
 use Rattle.std.specs.Option.{option_map}
 use Rattle.term_table.specs.Fitting.{Fits}
 use Rattle.term_table.specs.Views.{at}

@@ -1,12 +1,9 @@
-use Rattle.std.proofs.Common.{◌≡◌, ◌+◌, refl, sym, ap, ◌∙◌, length, arith, map, [], ◌∷◌}
-use Rattle.std.proofs.lemmas.List.{length-append}
+use Rattle.std.proofs.Common.{◌≡◌, length, arith, map}
 use Rattle.term_table.specs.Fitting.{Fits}
-use Rattle.js_heap.specs.Contents.{bare_object}
-use Rattle.js_heap.specs.declared.class.Class.TheVariants.{Function}
 use Rattle.js_state.specs.Held.{held_object}
 use Rattle.js_state.specs.Inside.{contents_of}
-use Rattle.js_state.proofs.Lists.{length_map, all_push}
-use Rattle.js_state.proofs.Made.{made, held_function, objects_more, sound_function}
+use Rattle.js_state.proofs.Lists.{length_map}
+use Rattle.js_state.proofs.Made.{made, held_function, sound_function}
 use Rattle.js_state.proofs.state.State.new_function.Goals as goal
 
 pub invariant_of-self-in-Ok : goal.invariant_of-self-in-Ok

@@ -1,4 +1,4 @@
-use Rattle.std.proofs.Common.{◌≡◌, refl, sym, ap, ◌∙◌, length, arith, map}
+use Rattle.std.proofs.Common.{◌≡◌, length, arith, map}
 use Rattle.js_state.specs.Held.{held_object}
 use Rattle.js_state.specs.Inside.{contents_of}
 use Rattle.js_state.proofs.Lists.{length_map}

@@ -1,4 +1,4 @@
-use Rattle.std.proofs.Common.{refl, sym, ap, ◌∙◌, arith}
+use Rattle.std.proofs.Common.{arith}
 use Rattle.js_state.specs.Inside.{contents_of}
 use Rattle.js_state.specs.Held.{scope_of}
 use Rattle.js_state.proofs.Bindings.{opened, no_room, cells_length, cells_push}

@@ -1,4 +1,4 @@
-use Rattle.std.proofs.Common.{◌≡◌, refl, sym, ap, subst, ◌∙◌, List}
+use Rattle.std.proofs.Common.{sym, ap, subst, ◌∙◌, List}
 use Rattle.term_table.specs.declared.term.Term.{Term}
 use Rattle.term_table.specs.Growing.{Grown}
 use Rattle.term_table.specs.Views.{at}

@@ -1,4 +1,4 @@
-use Rattle.std.proofs.Common.{refl, sym, ap, ◌∙◌, [], ◌∷◌, ◌≡◌}
+use Rattle.std.proofs.Common.{[], ◌≡◌}
 use Rattle.js_meaning.specs.Running.{raises}
 use Rattle.js_state.proofs.Plays.{does_cut, does_raise}
 use Rattle.std.proofs.Common.{arith}

@@ -1,4 +1,3 @@
-use Rattle.std.proofs.Common.{refl, sym, ap, ◌∙◌, [], ◌∷◌, ◌≡◌}
 use Rattle.term_table.specs.Walking.{Stopped}
 use Rattle.js_state.proofs.Plays.{does_cut, does_end, does_fail}
 use Rattle.std.proofs.Common.{arith}

@@ -1,4 +1,4 @@
-use Rattle.std.proofs.Common.{refl, sym, ap, ◌∙◌, [], ◌∷◌, ◌≡◌}
+use Rattle.std.proofs.Common.{[], ◌≡◌}
 use Rattle.term_table.specs.Views.{at}
 use Rattle.js_meaning.specs.Running.{gives}
 use Rattle.js_state.proofs.Plays.{does_cut, does_value}

@@ -1,4 +1,4 @@
-use Rattle.std.proofs.Common.{refl, sym, ap, ◌∙◌, length}
+use Rattle.std.proofs.Common.{ap, length}
 use Rattle.js_state.specs.Inside.{contents_of}
 use Rattle.js_state.specs.Seen.{place_of}
 use Rattle.js_state.proofs.Looked.{held_index}

@@ -1,4 +1,4 @@
-use Rattle.std.proofs.Common.{refl, sym, ap, ◌∙◌, arith}
+use Rattle.std.proofs.Common.{sym, ◌∙◌}
 use Rattle.js_meaning.specs.Names.{put_name, find_name}
 use Rattle.js_state.proofs.Lists.{some_get}
 use Rattle.js_state.proofs.Bindings.{none_of, some_of, puts_none, puts_const, puts}

@@ -1,5 +1,4 @@
-use Rattle.std.proofs.Common.{refl, sym, ap, ◌∙◌, arith}
-use Rattle.term_table.specs.Views.{at}
+use Rattle.std.proofs.Common.{refl, arith}
 use Rattle.js_state.proofs.Bindings.{cells_length, seen_at_name}
 use Rattle.js_meaning.specs.Names.{read_name, find_name}
 use Rattle.js_state.proofs.state.State.read_name.Goals as goal

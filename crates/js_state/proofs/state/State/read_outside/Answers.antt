@@ -1,4 +1,4 @@
-use Rattle.std.proofs.Common.{refl, sym, ap, ◌∙◌, arith, Some}
+use Rattle.std.proofs.Common.{sym, ap}
 use Rattle.term_table.proofs.Views.{at_plain}
 use Rattle.js_meaning.specs.Names.{read_found, found_input}
 use Rattle.js_state.specs.Inside.{contents_of}

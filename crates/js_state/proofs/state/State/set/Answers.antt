@@ -1,7 +1,7 @@
-use Rattle.std.proofs.Common.{refl, sym, ap, ◌∙◌}
+use Rattle.std.proofs.Common.{sym, ap, ◌∙◌}
 use Rattle.term_table.specs.Views.{at}
 use Rattle.js_meaning.specs.Objects.{written}
-use Rattle.js_meaning.specs.Running.{done, given, stops}
+use Rattle.js_meaning.specs.Running.{done, given}
 use Rattle.js_state.specs.Seen.{place_of}
 use Rattle.js_state.proofs.ByBase.{sets_nothing, sets_primitive, sets_text, sets_object}
 use Rattle.js_state.proofs.state.State.set.Goals as goal

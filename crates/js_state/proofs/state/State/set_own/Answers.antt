@@ -1,4 +1,3 @@
-use Rattle.std.proofs.Common.{refl, sym, ap, ◌∙◌}
 use Rattle.js_state.proofs.Looked.{own_class}
 use Rattle.js_state.proofs.state.State.set_own.Goals as goal
 

@@ -1,4 +1,4 @@
-use Rattle.std.proofs.Common.{◌≡◌, refl, sym, ap, ◌∙◌}
+use Rattle.std.proofs.Common.{sym, ap}
 use Rattle.term_table.specs.Views.{at}
 use Rattle.js_meaning.specs.Operators.{step_row}
 use Rattle.js_meaning.specs.Running.{play}

@@ -1,11 +1,8 @@
-use Rattle.std.proofs.Common.{◌≡◌, refl, sym, ap, ◌∙◌, [], ◌∷◌}
-use Rattle.std.proofs.lemmas.List.{append-nil}
-use Rattle.term_table.proofs.Adding.{grown_same}
+use Rattle.std.proofs.Common.{sym, ap}
 use Rattle.term_table.specs.Views.{at}
 use Rattle.js_ops.proofs.Shown.{at_fit}
 use Rattle.js_meaning.specs.Operators.{unary_row}
 use Rattle.js_meaning.specs.Running.{play}
-use Rattle.js_meaning.specs.Values.{object}
 use Rattle.js_state.specs.Seen.{place_of}
 use Rattle.js_state.proofs.Plays.{does_behind, does_give}
 use Rattle.std.proofs.Common.{arith}

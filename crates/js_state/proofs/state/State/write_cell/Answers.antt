@@ -1,4 +1,4 @@
-use Rattle.std.proofs.Common.{◌≡◌, refl, sym, ap, ◌∙◌, arith, ◌<◌, length, Some, slice_set}
+use Rattle.std.proofs.Common.{◌≡◌, sym, ap, ◌∙◌, arith, Some, slice_set}
 use Rattle.js_state.specs.Held.{Cell}
 use Rattle.js_state.specs.Inside.{contents_of}
 use Rattle.js_state.proofs.Lists.{some_get}
