@@ -45,17 +45,3 @@ pub of_other : (site : ℕ) (name : Identifier) (es : List Expr) (calls : Calls)
     new_of expr site name es calls k scope st ≡ bind (read_name name.site name.name scope st) (on_value (λ x st. leaves site why.New st))
 unfolding read_name
 of_other site name es calls k scope st n = new_unlisted site name es (find_name scope name.name st) calls k scope st n
-
--- ---- a target in brackets that is read
-
-pub step_stops : (w : Fuel) (at : ℕ) (op : StepOp) (is_prefix : Bool) (scope : Around) (site : ℕ) (is_static : Bool) (x y : Value) (st : Place) (c : Completion) →
-    ((go : Value → Place → Outcome) → bind (get_bracket site is_static (callee x undefined) y st) (on_value go) ≡ done st c) →
-    reached w (goal.Step at op is_prefix) scope (bracket_aim site is_static x y) st ≡ done st c
-step_stops w at op is_prefix scope site is_static x y st c h =
-    h (λ x' st. bind (play (step_row op at x') st) (on_value (λ y' st. bind (put_aim (scope_of scope) (bracket_aim site is_static x y) y' st) (on_value (λ z st. done st (given (step_value is_prefix x' z)))))))
-
-pub compound_stops : (w : Fuel) (at : ℕ) (op : BinaryOp) (value : _) (scope : Around) (site : ℕ) (is_static : Bool) (x y : Value) (st : Place) (c : Completion) →
-    ((go : Value → Place → Outcome) → bind (get_bracket site is_static (callee x undefined) y st) (on_value go) ≡ done st c) →
-    reached w (goal.Assign at (Some op) value) scope (bracket_aim site is_static x y) st ≡ done st c
-compound_stops w at op value scope site is_static x y st c h =
-    h (λ x' st. bind (expr value.now (calling w) w.loops (scope_of scope) st) (on_value (λ y' st. bind (apply op at x' y' st) (on_value (put_aim (scope_of scope) (bracket_aim site is_static x y))))))

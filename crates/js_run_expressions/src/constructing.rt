@@ -48,7 +48,7 @@ fn other<'a>(
 }
 
 /// `new` is begun.
-pub fn construct<'a>(
+pub(crate) fn construct<'a>(
     alloc: Global,
     state: &mut State<'a>,
     frames: &mut Frames<'a>,

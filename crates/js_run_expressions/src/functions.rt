@@ -68,7 +68,7 @@ fn make_named<'a>(
 }
 
 /// A function expression.
-pub fn function<'a>(
+pub(crate) fn function<'a>(
     state: &mut State<'a>,
     site: u32,
     name: &'a Option<Identifier>,
@@ -104,7 +104,7 @@ pub fn function<'a>(
 }
 
 /// An arrow, which has the `this` around it.
-pub fn arrow<'a>(
+pub(crate) fn arrow<'a>(
     state: &mut State<'a>,
     site: u32,
     parameters: &'a [Identifier],

@@ -57,7 +57,7 @@ fn elements<'a>(
 }
 
 /// An array literal is begun; the array is there before its elements.
-pub fn array<'a>(
+pub(crate) fn array<'a>(
     state: &mut State<'a>,
     frames: &mut Frames<'a>,
     site: u32,
@@ -146,7 +146,7 @@ fn members<'a>(
 }
 
 /// An object literal is begun; the object is there before its members.
-pub fn plain<'a>(
+pub(crate) fn plain<'a>(
     state: &mut State<'a>,
     frames: &mut Frames<'a>,
     site: u32,
@@ -251,7 +251,7 @@ pub fn member<'a>(
 }
 
 /// The arguments from here on.
-pub fn gather<'a>(
+pub(crate) fn gather<'a>(
     frames: &mut Frames<'a>,
     gathered: Boxed<Gathered<'a>>,
     rest: &'a [Boxed<Expr>],

@@ -21,7 +21,7 @@ use sqlite_items::Boxed;
 use term_table::Shadow;
 
 /// An operator before an expression is begun.
-pub fn unary<'a>(
+pub(crate) fn unary<'a>(
     state: &mut State<'a>,
     frames: &mut Frames<'a>,
     site: u32,
@@ -171,7 +171,7 @@ pub fn logical<'a>(
 }
 
 /// `?:` is begun, at the start of its test.
-pub fn conditional<'a>(
+pub(crate) fn conditional<'a>(
     state: &mut State<'a>,
     frames: &mut Frames<'a>,
     start: u32,

@@ -30,7 +30,11 @@ const TEXT_LIMIT: usize = 65_536;
 const MOST_SAFE: u64 = 9_007_199_254_740_991;
 
 /// A name that is read.
-pub fn name(state: &mut State, name: &Identifier, scope: Scope) -> Result<Completion, NoMemory>
+pub(crate) fn name(
+    state: &mut State,
+    name: &Identifier,
+    scope: Scope,
+) -> Result<Completion, NoMemory>
     ensures gives { IfOk result (λ completion. Gives (λ view. counting name.now.site (place_of view state.old) (λ st. reading name.now.site name.now.name (scope_of scope) st)) state.new completion) }
     ensures quiet { IfOk result (λ completion. Quiet state.old state.new) }
     ensures falls { IfOk result (λ completion. Falls state.old [] 1 state.new [] (cost_of_given completion)) }
@@ -45,7 +49,7 @@ pub fn name(state: &mut State, name: &Identifier, scope: Scope) -> Result<Comple
 }
 
 /// The object that is `this`, or undefined.
-pub fn this_plain(this: Option<u32>) -> Plain
+pub(crate) fn this_plain(this: Option<u32>) -> Plain
     ensures value { plain_value result ≡ this_of this }
     ensures fits { IsValue result }
 {
@@ -56,7 +60,7 @@ pub fn this_plain(this: Option<u32>) -> Plain
 }
 
 /// A value that needs no memory.
-pub fn constant(state: &mut State, site: u32, plain: Plain) -> Completion
+pub(crate) fn constant(state: &mut State, site: u32, plain: Plain) -> Completion
     requires { IsValue plain }
     ensures gives { Gives (λ view. counting site (place_of view state.old) (λ st. done st (given (plain_value plain)))) state.new result }
     ensures quiet { Quiet state.old state.new }
@@ -73,7 +77,7 @@ pub fn constant(state: &mut State, site: u32, plain: Plain) -> Completion
 
 /// A whole number that the script spells. One above 2^53 - 1, which no script spells, leaves the profile.
 #[tactic(auto, using(std::proofs::lemmas::Bool::Decides::nat_tests))]
-pub fn number(state: &mut State, site: u32, value: u64) -> Completion
+pub(crate) fn number(state: &mut State, site: u32, value: u64) -> Completion
     ensures gives { Gives (λ view. counting site (place_of view state.old) (λ st. number_literal site value st)) state.new result }
     ensures quiet { Quiet state.old state.new }
     ensures falls { Falls state.old [] 1 state.new [] (cost_of_given result) }
@@ -94,7 +98,7 @@ pub fn number(state: &mut State, site: u32, value: u64) -> Completion
 
 /// A text that the script spells. One of more than 65,536 units leaves the profile.
 #[tactic(auto, using(std::proofs::lemmas::Bool::Decides::nat_tests))]
-pub fn text(
+pub(crate) fn text(
     alloc: Global,
     state: &mut State,
     site: u32,

@@ -1,9 +1,0 @@
-use Rattle.std.proofs.Common.{refl}
-use Rattle.js_frames.proofs.Steps.{stays, leads, both, where_true, where_false}
-use Rattle.js_run_expressions.proofs.targets.value_property.Goals as goal
-
-pub returns-then-not-count-clause-leads : goal.returns-then-not-count-clause-leads
-returns-then-not-count-clause-leads c = λ this. leads (stays c.count.ensures.quiet refl (λ view w. rw c.cut.ensures (where_false _ _ c.if-not-count.true (c.count.ensures.goes view _ _))))
-
-pub returns-clause-leads : goal.returns-clause-leads
-returns-clause-leads c = λ this. leads (both (stays c.count.ensures.quiet refl (λ view w. where_true _ _ c.if-not-count.false (c.count.ensures.goes view _ _))) c.in_ok-work.ensures.leads.to)

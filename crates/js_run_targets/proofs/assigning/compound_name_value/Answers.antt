@@ -1,0 +1,20 @@
+use Rattle.std.proofs.Common.{arith, refl, ◌∙◌}
+use Rattle.js_meaning.specs.Running.{on_value}
+use Rattle.js_state.specs.Held.{scope_of}
+use Rattle.js_frames.proofs.Steps.{stays, leads, both, plays, quiet_of, still}
+use Rattle.js_frames.proofs.Later.{frames_later, frames_same}
+use Rattle.js_state.proofs.Found.{result_ok, result_err}
+use Rattle.js_meaning.specs.Parts.{name_aim, put_aim}
+use Rattle.js_run_targets.proofs.assigning.compound_name_value.Goals as goal
+
+pub returns-in-Err-clause-leads : goal.returns-in-Err-clause-leads
+returns-in-Err-clause-leads c = leads (both (plays (λ view w. on_value (put_aim (scope_of c.args.scope) (name_aim c.args.at c.args.name.now))) c.in_ok-made.ensures.does (omega (arith, c.in_ok-made.ensures.level.turns)) (λ view w st e. refl)) (stays still refl (λ view w. result_err view _ _ _ c.in-Err.is (c.value.ensures.goes view (put_aim (scope_of c.args.scope) (name_aim c.args.at c.args.name.now))))))
+
+pub returns-in-Err-clause-fits : goal.returns-in-Err-clause-fits
+returns-in-Err-clause-fits c = (frames_later c.args.state.now c.operate.new.self c.args.frames.now c.in_ok-made.ensures.does.grown c.requires.frames, c.in-Err.ensures.fits)
+
+pub returns-clause-leads : goal.returns-clause-leads
+returns-clause-leads c = leads (both (plays (λ view w. on_value (put_aim (scope_of c.args.scope) (name_aim c.args.at c.args.name.now))) c.in_ok-made.ensures.does (omega (arith, c.in_ok-made.ensures.level.turns)) (λ view w st e. refl)) (stays (quiet_of c.in_ok-completion-in-Ok.ensures.still) refl (λ view w. result_ok view _ _ _ _ c.in-Ok.is (c.value.ensures.goes view (put_aim (scope_of c.args.scope) (name_aim c.args.at c.args.name.now))) ∙ c.in_ok-completion-in-Ok.ensures.gives view)))
+
+pub returns-clause-fits : goal.returns-clause-fits
+returns-clause-fits c = (frames_same c.operate.new.self c.put_name.new.self c.args.frames.now c.in_ok-completion-in-Ok.ensures.still.table (frames_later c.args.state.now c.operate.new.self c.args.frames.now c.in_ok-made.ensures.does.grown c.requires.frames), c.in_ok-completion-in-Ok.ensures.fits)

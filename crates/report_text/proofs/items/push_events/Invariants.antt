@@ -1,0 +1,10 @@
+use Rattle.std.proofs.Common.{◌≡◌, ◌++◌, length}
+use Rattle.std.specs.List.{flat_map}
+use Rattle.report_text.specs.Lines.{event_text}
+use Rattle.report_text.proofs.items.push_events.Given as goal
+
+abbrev pub invariant-loop-left : goal.invariant-loop-left
+invariant-loop-left l = l.out.items ++ flat_map event_text l.left ≡ l.fn.out.items ++ flat_map event_text l.events
+
+abbrev pub decreases-loop-left : goal.decreases-loop-left
+decreases-loop-left l = length l.left
