@@ -246,19 +246,24 @@ pub record Goes (old : Contents) (fs : List Frame) (go : View → Fuel → Outco
 pub record Leads (old : Contents) (fs : List Frame) (go : View → Contents → Fuel → Outcome) (new : Contents) (gs : List Frame) (next : Work) : Type 0 where
   pub to : Goes old fs (λ view. go view old) new gs (λ view. thread view next new)
 
-abbrev pub MatchOutcome : {A : Type 0} → Option A → Outcome → (A → Outcome) → Outcome
-MatchOutcome None none some = none
-MatchOutcome (Some x) none some = some x
-
 -- ---- what single steps come to
 
 -- an expression was begun
 abbrev pub Evals : Contents → List Frame → Expr → Around → Contents → List Frame → Work → Type 0
 Evals old fs tree scope new gs next = Leads old fs (λ view st w. doing w (expr tree) scope (place_of view st)) new gs next
 
+-- a statement was begun
+abbrev pub Execs : Contents → List Frame → Stmt → Around → Contents → List Frame → Work → Type 0
+Execs old fs tree scope new gs next = Leads old fs (λ view st w. doing w (stmt tree) scope (place_of view st)) new gs next
+
 -- a part has its value
 abbrev pub Continues : Contents → List Frame → Part → Shadow → Contents → List Frame → Work → Type 0
 Continues old fs part value new gs next = Leads old fs (λ view st w. part_of view w part (at view value) (place_of view st)) new gs next
+
+-- a frame, which was taken off the stack, has what it waits for
+abbrev pub Resumes : Contents → List Frame → Frame → Completion → Contents → List Frame → Work → Type 0
+Resumes old fs frame completion new gs next =
+    Leads old fs (λ view st w. frame_of view w frame (place_of view st) (completion_at view completion)) new gs next
 
 -- at each view the place comes to this one, with this completion
 abbrev pub Gives : (View → Outcome) → Contents → Completion → Type 0
