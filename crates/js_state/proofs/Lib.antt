@@ -3,6 +3,7 @@ pub mod Lists
 pub mod Made
 pub mod Found
 pub mod Shown
+pub mod Counted
 pub mod Plays
 pub mod Looked
 pub mod ByBase

@@ -1,5 +1,5 @@
 -- Each shadow of a state fits its table: one family of predicates, over any predicate of shadows.
-use Rattle.std.specs.Prelude.{◌≡◌, ◌≤◌, ◌<◌, ℕ, List, [], ◌∷◌, Option, Some, None, length, Result, Ok, Err, true}
+use Rattle.std.specs.Prelude.{◌≡◌, ◌≤◌, ◌<◌, ℕ, Bool, List, [], ◌∷◌, Option, Some, None, length, Result, Ok, Err, true, false}
 use Rattle.js_heap.specs.declared.class.Class.{Class as Kind}
 use Rattle.js_heap.specs.declared.class.Class.TheVariants as kind
 use Rattle.js_heap.specs.Contents.{Object as Parts, Heap}
@@ -89,15 +89,17 @@ abbrev pub ErrStops : {A : Type 0} → Result A Completion → Type 0
 ErrStops (Ok x) = Unit {0}
 ErrStops (Err completion) = IsStop completion
 
+-- a value or a reference
+abbrev pub is_result : Completion → Bool
+is_result (c.Value x) = true
+is_result (c.Refers r) = true
+is_result _ = false
+
 -- thrown, or stopped
 abbrev pub IsAbrupt : Completion → Type 0
 IsAbrupt (c.Throw site x) = Unit {0}
 IsAbrupt (c.Stop end) = Unit {0}
 IsAbrupt _ = ⊥
-
-abbrev pub ErrAbrupt : {A : Type 0} → Result A Completion → Type 0
-ErrAbrupt (Ok x) = Unit {0}
-ErrAbrupt (Err completion) = IsAbrupt completion
 
 -- a value, or an end of what was begun
 abbrev pub IsPlayed : Completion → Type 0

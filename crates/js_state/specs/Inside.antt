@@ -3,6 +3,7 @@ use Rattle.std.specs.Prelude.{map, length, ◌≤◌}
 use Rattle.js_state.specs.declared.state.State.TheInside.{Inside}
 use Rattle.js_state.specs.Held.{Contents, cells_of, held_object}
 use Rattle.js_state.specs.Fitting.{IsSound}
+use Rattle.js_state.specs.Playing.{events_made}
 
 abbrev pub contents_of : Inside → Contents
 contents_of s = record {
@@ -24,3 +25,5 @@ pub record IsState (s : Inside) : Type 0 where
   pub sound : IsSound s.names (length s.closures) s.heap s.table s.inputs
   pub left : s.turns ≤ s.allowed
   pub few : s.allowed ≤ 1000000
+  pub made : length (events_made s.moves) ≤ s.events
+  pub limit : s.events ≤ 4096

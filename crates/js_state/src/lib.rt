@@ -8,6 +8,7 @@ mod closure;
 mod completion;
 mod held;
 mod objects;
+mod paths;
 mod playing;
 mod properties;
 mod reading;

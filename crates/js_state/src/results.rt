@@ -1,12 +1,12 @@
 //! Values and references of completions.
 
-ghost use Rattle.std.specs.Prelude.{◌≡◌};
+ghost use Rattle.std.specs.Prelude.{◌≡◌, OnOk, true};
 ghost use Rattle.js_meaning.specs.Parts.{settled};
 ghost use Rattle.js_meaning.specs.Running.{Outcome, Reference as Referred, get_value, on_value, on_reference};
 ghost use Rattle.js_meaning.specs.Values.{Place, Value as SpecValue};
 ghost use Rattle.term_table.specs.Fitting.{Fits};
 ghost use Rattle.term_table.specs.Views.{View, at as seen_at};
-ghost use Rattle.js_state.specs.Fitting.{InCompletion, InReference, InResult, ErrStops};
+ghost use Rattle.js_state.specs.Fitting.{InCompletion, InReference, InResult, ErrStops, is_result};
 ghost use Rattle.js_state.specs.Seen.{place_of, completion_at, reference_at, MatchResult};
 ghost use Rattle.js_state.specs.Spending.{ErrPoor};
 
@@ -22,6 +22,7 @@ impl<'a> State<'a> {
         ensures goes { (view : View) (go : SpecValue → Place → Outcome) → get_value go (reference_at view reference) (place_of view self.now) ≡ MatchResult view (seen_at view) result (place_of view self.now) go }
         ensures fits { InResult (Fits self.now.table) (Fits self.now.table) result }
         ensures poor { ErrPoor result }
+        ensures stops { ErrStops result }
     {
         match reference {
             Reference::Callee { value, this: _ } => Ok(value),
@@ -46,6 +47,8 @@ impl<'a> State<'a> {
         ensures goes { (view : View) (go : SpecValue → Place → Outcome) → on_value go (place_of view self.now) (completion_at view completion) ≡ MatchResult view (seen_at view) result (place_of view self.now) go }
         ensures fits { InResult (Fits self.now.table) (Fits self.now.table) result }
         ensures poor { ErrPoor result }
+        ensures found { OnOk result (is_result completion ≡ true) }
+        ensures stops { is_result completion ≡ true → ErrStops result }
     {
         match completion {
             Completion::Value(value) => Ok(value),
@@ -61,6 +64,8 @@ impl<'a> State<'a> {
         ensures goes { (view : View) (go : Referred → Place → Outcome) → on_reference go (place_of view self.now) (completion_at view completion) ≡ MatchResult view (reference_at view) result (place_of view self.now) go }
         ensures fits { InResult (InReference (Fits self.now.table)) (Fits self.now.table) result }
         ensures poor { ErrPoor result }
+        ensures found { OnOk result (is_result completion ≡ true) }
+        ensures stops { is_result completion ≡ true → ErrStops result }
     {
         match completion {
             Completion::Value(value) => Ok(Reference::Callee { value, this: None }),

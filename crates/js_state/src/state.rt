@@ -1,9 +1,10 @@
 //! The state of a run.
 
-ghost use Rattle.std.specs.Prelude.{◌≡◌, ◌≤◌, IfOk, map, [], List};
+ghost use Rattle.std.specs.Prelude.{◌≡◌, ◌≤◌, ◌∷◌, IfOk, map, [], List, true, false};
 ghost use Rattle.js_meaning.specs.Path.{start, inputs_of, input_value};
 ghost use Rattle.term_table.specs.Views.{View, plain_value};
 ghost use Rattle.term_table.specs.Fitting.{IsValue};
+ghost use Rattle.term_table.specs.declared.term.Term.TheVariants.{Flag};
 ghost use Rattle.js_state.specs.Fitting.{AllOf, IsInputValue, IsSupplied, AreSupplied};
 ghost use Rattle.js_state.specs.Seen.{place_of, supplied_at, answers_at};
 
@@ -118,6 +119,7 @@ impl<'a> State<'a> {
         ensures keeps { IfOk result (λ state. state.keeps ≡ keeps) }
         ensures turns { IfOk result (λ state. state.turns ≡ bounds.now.turns) }
         ensures nodes { IfOk result (λ state. state.nodes ≡ 0) }
+        ensures table { IfOk result (λ state. state.table ≡ Flag false ∷ Flag true ∷ []) }
     {
         let inputs = supplies(alloc, bounds.inputs.as_slice(), input.values.as_slice())?;
         let table = Table::new(alloc, bounds)?;

@@ -8,4 +8,6 @@ invariant_of-self-2 c =
       sound = sound_more c.self.inside.names (length c.self.inside.closures) c.self.inside.heap c.self.inside.table c.step.new.table c.self.inside.inputs c.self.invariant.sound;
       left = c.self.invariant.left;
       few = c.self.invariant.few;
+      made = c.self.invariant.made;
+      limit = c.self.invariant.limit;
     }

@@ -12,6 +12,8 @@ invariant_of-self-in-Ok c =
       sound = rw (c.in_ok-push.ensures.ok, c.in-Ok.ensures.ok) (sound_function _ _ _ _ _ _ _ 0 c.len-code.ensures c.self.invariant.sound);
       left = c.self.invariant.left;
       few = c.self.invariant.few;
+      made = c.self.invariant.made;
+      limit = c.self.invariant.limit;
     }
 
 pub returns-in-Ok-clause-goes : goal.returns-in-Ok-clause-goes

@@ -11,6 +11,8 @@ invariant_of-self c =
       sound = rw c.in_ok-push_item.ensures.ok (sound_pushed c.self.inside.names (length c.self.inside.closures) c.self.inside.heap c.self.inside.table c.self.inside.inputs c.args.id c.args.value c.self.invariant.sound (rw (← c.self.view_is) at c.requires.fits) (rw (← c.self.view_is, held_index c.self.inside.closures c.self.inside.heap.objects c.args.id) at c.requires.room));
       left = c.self.invariant.left;
       few = c.self.invariant.few;
+      made = c.self.invariant.made;
+      limit = c.self.invariant.limit;
     }
 
 pub returns-in_ok-push_item-clause-pushed : goal.returns-in_ok-push_item-clause-pushed

@@ -10,6 +10,8 @@ invariant_of-self c =
       sound = rw (c.in_ok-set.ensures.ok, c.in_ok-key.ensures) (sound_stored c.self.inside.names (length c.self.inside.closures) c.self.inside.heap c.self.inside.table c.self.inside.inputs c.args.id c.args.key.now c.args.value c.self.invariant.sound (rw (← c.self.view_is) at c.requires));
       left = c.self.invariant.left;
       few = c.self.invariant.few;
+      made = c.self.invariant.made;
+      limit = c.self.invariant.limit;
     }
 
 pub returns-in_ok-set-clause-stored : goal.returns-in_ok-set-clause-stored
