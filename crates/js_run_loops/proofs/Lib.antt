@@ -1,0 +1,3 @@
+pub mod Copying
+pub mod Iterating
+pub mod Rounds
