@@ -1,5 +1,5 @@
 -- Bindings that are copied for the next round of a `for`.
-use Rattle.std.proofs.Common.{◌≡◌, ◌≤◌, ℕ, suc, Bool, true, List, [], ◌∷◌, length, Option, Some, None, Result, Ok, Err, refl, ap, ◌∙◌, sym, arith}
+use Rattle.std.proofs.Common.{◌≡◌, ◌≤◌, true, List, [], ◌∷◌, length, Option, Result, refl, ap, ◌∙◌, sym, arith}
 use Rattle.std.specs.Option.{option_map}
 use Rattle.js_ast.specs.declared.expression.Expr.{Expr}
 use Rattle.js_ast.specs.declared.operators.DeclarationKind.TheVariants.{Let}

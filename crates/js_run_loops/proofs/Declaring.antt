@@ -1,5 +1,5 @@
 -- The head of a `for` that declares names.
-use Rattle.std.proofs.Common.{◌≡◌, ℕ, Bool, true, false, List, [], refl, ap}
+use Rattle.std.proofs.Common.{◌≡◌, ℕ, true, false, List, [], refl, ap}
 use Rattle.js_ast.specs.declared.expression.Expr.{Expr}
 use Rattle.js_ast.specs.declared.operators.DeclarationKind.{DeclarationKind}
 use Rattle.js_ast.specs.declared.operators.DeclarationKind.TheVariants.{Let, Const}

@@ -1,4 +1,4 @@
-use Rattle.std.proofs.Common.{refl, ◌∙◌, ap, sym}
+use Rattle.std.proofs.Common.{◌∙◌, ap, sym}
 use Rattle.js_ast.specs.declared.operators.DeclarationKind.TheVariants.{Let}
 use Rattle.js_meaning.specs.Running.{Outcome}
 use Rattle.js_meaning.specs.Blocks.{declared_of}

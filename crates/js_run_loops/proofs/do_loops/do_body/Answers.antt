@@ -4,7 +4,7 @@ use Rattle.js_meaning.specs.Meaning.{expr}
 use Rattle.js_state.specs.Held.{scope_of}
 use Rattle.js_frames.specs.Machine.{does_in, do_on}
 use Rattle.js_state.specs.Seen.{place_of}
-use Rattle.js_frames.proofs.Steps.{stays, pushes, leads, both, still}
+use Rattle.js_frames.proofs.Steps.{stays, pushes, leads, still}
 use Rattle.js_run_loops.proofs.do_loops.do_body.Goals as goal
 
 pub returns-in-Err-clause-leads : goal.returns-in-Err-clause-leads

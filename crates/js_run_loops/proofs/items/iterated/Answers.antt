@@ -1,4 +1,4 @@
-use Rattle.std.proofs.Common.{refl, ◌∙◌, sym}
+use Rattle.std.proofs.Common.{◌∙◌, sym}
 use Rattle.js_frames.proofs.Steps.{where_true, where_false}
 use Rattle.js_run_loops.proofs.Iterating.{object_starts, text_starts, other_throws}
 use Rattle.js_run_loops.proofs.items.iterated.Goals as goal

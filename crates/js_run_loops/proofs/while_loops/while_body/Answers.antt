@@ -1,7 +1,7 @@
 use Rattle.std.proofs.Common.{refl, suc}
 use Rattle.js_frames.specs.Machine.{while_on}
 use Rattle.js_state.specs.Seen.{place_of}
-use Rattle.js_frames.proofs.Steps.{stays, pushes, leads, both, still}
+use Rattle.js_frames.proofs.Steps.{stays, pushes, leads, still}
 use Rattle.js_run_loops.proofs.while_loops.while_body.Goals as goal
 
 pub returns-in-Err-clause-leads : goal.returns-in-Err-clause-leads

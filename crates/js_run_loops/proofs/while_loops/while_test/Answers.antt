@@ -1,4 +1,4 @@
-use Rattle.std.proofs.Common.{refl, suc}
+use Rattle.std.proofs.Common.{refl}
 use Rattle.term_table.specs.Fitting.{Fits}
 use Rattle.js_meaning.specs.Loops.{round_if}
 use Rattle.js_meaning.specs.Meaning.{stmt}
