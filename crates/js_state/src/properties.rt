@@ -1,6 +1,6 @@
 //! Properties, read and written by static keys, and items (ECMA-262, sections 7.3 and 10.1).
 
-ghost use Rattle.std.specs.Prelude.{◌≡◌, ◌<◌, ◌≤◌, ℕ, List, [], ◌∷◌, Option, Some, None, option_map, map, length, slice_index_or, IfOk, true, false};
+ghost use Rattle.std.specs.Prelude.{◌≡◌, ◌<◌, ◌≤◌, ℕ, List, [], ◌∷◌, Option, Some, None, option_map, map, length, slice_index_or, IfOk, IfSome, true, false};
 ghost use Rattle.js_meaning.specs.Builtins.{among};
 ghost use Rattle.js_meaning.specs.Loops.{item_at as item_of};
 ghost use Rattle.js_meaning.specs.Objects.{look_up, code_of as coded, is_array as arrayed, object_at as object_in};
@@ -68,10 +68,11 @@ impl<'a> State<'a> {
         }
     }
 
-    /// The item of an object at a place, as a copy.
+    /// The item of an object at a place, as a copy. There are at most 65,536.
     pub fn item_at(&self, id: u32, at: usize) -> Result<Option<Shadow>, NoMemory>
         ensures found { IfOk result (λ o. (view : View) → option_map (seen_at view) o ≡ item_of (place_of view self.now).objects id at) }
         ensures fits { IfOk result (λ o. InSome (Fits self.now.table) o) }
+        ensures within { IfOk result (λ o. IfSome o (λ x. at < 65536)) }
     {
         if id >= self.heap.objects() {
             return Ok(None);

@@ -1,5 +1,6 @@
-use Rattle.std.proofs.Common.{sym, ap, ◌∙◌, length}
+use Rattle.std.proofs.Common.{◌<◌, arith, sym, ap, ◌∙◌, length, slice_index_or}
 use Rattle.std.specs.Option.{option_map}
+use Rattle.std.proofs.lemmas.Option.{slice_get_within}
 use Rattle.term_table.specs.Fitting.{Fits}
 use Rattle.term_table.specs.Views.{at}
 use Rattle.js_heap.specs.declared.class.Class.TheVariants.{Plain}
@@ -19,3 +20,9 @@ pub returns-in_ok-value-in-Some-clause-fits : goal.returns-in_ok-value-in-Some-c
 returns-in_ok-value-in-Some-clause-fits c =
     let o = all_or (InObject (Fits c.self.inside.table) (length c.self.inside.closures)) c.self.inside.heap.objects c.args.id (bare_object Plain) c.self.invariant.sound.objects (bare_fits (Fits c.self.inside.table) (length c.self.inside.closures)) in
     rw (← c.self.view_is, c.in_ok-value-in-Some.ensures) (item_fits (Fits c.self.inside.table) _ _ _ c.in-Some.ensures o.items)
+
+pub returns-in_ok-value-in-Some-clause-within : goal.returns-in_ok-value-in-Some-clause-within
+returns-in_ok-value-in-Some-clause-within c =
+    let o = all_or (InObject (Fits c.self.inside.table) (length c.self.inside.closures)) c.self.inside.heap.objects c.args.id (bare_object Plain) c.self.invariant.sound.objects (bare_fits (Fits c.self.inside.table) (length c.self.inside.closures)) in
+    let within : c.args.at < length (slice_index_or c.self.inside.heap.objects c.args.id (bare_object Plain)).items = slice_get_within _ _ _ (sym c.in-Some.ensures) in
+    omega (arith, within, o.few)

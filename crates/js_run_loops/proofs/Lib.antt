@@ -1,0 +1,4 @@
+pub mod Copying
+pub mod Declaring
+pub mod Iterating
+pub mod Rounds

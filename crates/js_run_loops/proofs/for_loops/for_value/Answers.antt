@@ -1,0 +1,4 @@
+use Rattle.js_run_loops.proofs.for_loops.for_value.Goals as goal
+
+pub returns-clause-leads : goal.returns-clause-leads
+returns-clause-leads c = c.in_ok-work.ensures.leads

@@ -1,0 +1,14 @@
+use Rattle.std.proofs.Common.{refl, suc}
+use Rattle.js_frames.specs.Machine.{of_on}
+use Rattle.js_state.specs.Seen.{place_of}
+use Rattle.js_frames.proofs.Steps.{stays, leads, both, still}
+use Rattle.js_run_loops.proofs.of_loops.of_body.Goals as goal
+
+pub returns-in-Err-clause-leads : goal.returns-in-Err-clause-leads
+returns-in-Err-clause-leads c = leads (stays still refl (λ view w. c.in-Err.ensures.goes view (place_of view c.args.state.now) (of_on w (suc w.loops) c.args.l c.args.index)))
+
+pub returns-in-Err-clause-fits : goal.returns-in-Err-clause-fits
+returns-in-Err-clause-fits c = (c.requires.frames, c.in-Err.ensures.fits c.args.state.now.table c.requires.completion)
+
+pub returns-in_ok-work-in-Ok-clause-leads : goal.returns-in_ok-work-in-Ok-clause-leads
+returns-in_ok-work-in-Ok-clause-leads c = leads (both (stays still refl (λ view w. c.in-Ok.ensures.goes view (place_of view c.args.state.now) (of_on w (suc w.loops) c.args.l c.args.index))) c.in_ok-work-in-Ok.ensures.leads.to)
