@@ -48,7 +48,8 @@ fn call_value<'a>(
             match activated {
                 Err(completion) => Ok(Work::Give(completion)),
                 Ok(scope) => {
-                    frames.push(Frame::Called)?;
+                    // Ended here, and not at each exit below.
+                    drop(activated);
                     let work = enter_body(frames, closure.code, scope)?;
                     Ok(work)
                 }

@@ -26,7 +26,7 @@ pub returns-in-Err-clause-fits : goal.returns-in-Err-clause-fits
 returns-in-Err-clause-fits c = (frames_same c.args.state.now c.activate.new.state c.args.frames.now c.in_ok-activated-in-Some.ensures.quiet.table c.requires.frames, stop_fits (Fits c.activate.new.state.table) c.in-Err.completion (err_stops c.in_ok-activated-in-Some.ensures.stops c.in-Err.is))
 
 pub returns-in_ok-work-in-Ok-clause-leads : goal.returns-in_ok-work-in-Ok-clause-leads
-returns-in_ok-work-in-Ok-clause-leads c = leads (both (calls Called c.in_ok-activated-in-Some.ensures.quiet (rw c.in-Ok.is at c.in_ok-activated-in-Some.ensures.taken) c.in_ok-push-in-Ok.ensures.ok (λ view n k. ap {B = Outcome} (λ (o : Option Code). call o (calls_in (suc n)) (suc n) c.args.site (this_of c.args.this) (map (at view) c.args.values.now) (place_of view c.args.state.now)) (sym (c.in-Some.ensures view)) ∙ result_ok view _ _ _ _ c.in-Ok.is (c.in_ok-activated-in-Some.ensures.goes view _))) (c.in_ok-work-in-Ok.ensures.leads c.activate.new.state).to)
+returns-in_ok-work-in-Ok-clause-leads c = leads (both (calls Called c.in_ok-activated-in-Some.ensures.quiet (rw c.in-Ok.is at c.in_ok-activated-in-Some.ensures.taken) refl (λ view n k. ap {B = Outcome} (λ (o : Option Code). call o (calls_in (suc n)) (suc n) c.args.site (this_of c.args.this) (map (at view) c.args.values.now) (place_of view c.args.state.now)) (sym (c.in-Some.ensures view)) ∙ result_ok view _ _ _ _ c.in-Ok.is (c.in_ok-activated-in-Some.ensures.goes view _))) (c.in_ok-work-in-Ok.ensures.leads c.activate.new.state).to)
 
 pub returns-in_ok-work-in-Ok-clause-fits : goal.returns-in_ok-work-in-Ok-clause-fits
-returns-in_ok-work-in-Ok-clause-fits c = c.in_ok-work-in-Ok.ensures.fits c.activate.new.state (rw c.in_ok-push-in-Ok.ensures.ok (tt, frames_same c.args.state.now c.activate.new.state c.args.frames.now c.in_ok-activated-in-Some.ensures.quiet.table c.requires.frames))
+returns-in_ok-work-in-Ok-clause-fits c = c.in_ok-work-in-Ok.ensures.fits c.activate.new.state (frames_same c.args.state.now c.activate.new.state c.args.frames.now c.in_ok-activated-in-Some.ensures.quiet.table c.requires.frames)
