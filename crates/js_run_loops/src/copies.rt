@@ -1,6 +1,6 @@
 //! Fresh bindings for each round of a `for` (CreatePerIterationEnvironment; ECMA-262, section 14.7.4.4).
 
-ghost use Rattle.std.specs.Prelude.{◌≡◌, ◌≤◌, ◌<◌, ◌+◌, List, IfOk, true, false};
+ghost use Rattle.std.specs.Prelude.{◌≡◌, ◌<◌, IfOk, true};
 ghost use Rattle.term_table.specs.Views.{View};
 ghost use Rattle.js_ast.specs.declared.operators.DeclarationKind.TheVariants.{Let};
 ghost use Rattle.js_meaning.specs.Blocks.{declared_of};

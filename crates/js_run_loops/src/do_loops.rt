@@ -1,8 +1,7 @@
 //! `do` (ECMA-262, section 14.7.2).
 
-ghost use Rattle.std.specs.Prelude.{◌≡◌, ◌≤◌, ◌<◌, ◌+◌, ◌*◌, suc, IfOk, true, false};
+ghost use Rattle.std.specs.Prelude.{◌<◌, ◌+◌, suc, IfOk};
 ghost use Rattle.term_table.specs.Fitting.{Fits};
-ghost use Rattle.term_table.specs.Views.{View};
 ghost use Rattle.js_ast.specs.declared.statement.Stmt.TheVariants.{Do};
 ghost use Rattle.js_state.specs.Fitting.{InCompletion};
 ghost use Rattle.js_state.specs.Seen.{place_of};

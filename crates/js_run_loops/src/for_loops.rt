@@ -1,8 +1,7 @@
 //! `for`, behind its head (ECMA-262, section 14.7.4).
 
-ghost use Rattle.std.specs.Prelude.{◌≡◌, ◌≤◌, ◌<◌, ◌+◌, ◌*◌, suc, IfOk, true, false};
+ghost use Rattle.std.specs.Prelude.{◌<◌, ◌+◌, suc, IfOk};
 ghost use Rattle.term_table.specs.Fitting.{Fits};
-ghost use Rattle.term_table.specs.Views.{View};
 ghost use Rattle.js_meaning.specs.Loops.{round as rounding};
 ghost use Rattle.js_meaning.specs.Meaning.{stmt};
 ghost use Rattle.js_state.specs.Fitting.{InCompletion};

@@ -1,8 +1,6 @@
 //! `for` is begun (ECMA-262, section 14.7.4.2).
 
-ghost use Rattle.std.specs.Prelude.{◌≡◌, ◌≤◌, ◌<◌, ◌+◌, ◌*◌, suc, IfOk, true, false};
-ghost use Rattle.term_table.specs.Fitting.{Fits};
-ghost use Rattle.term_table.specs.Views.{View};
+ghost use Rattle.std.specs.Prelude.{◌<◌, ◌+◌, ◌*◌, suc, IfOk};
 ghost use Rattle.js_ast.specs.declared.statement.Stmt.TheVariants.{For};
 ghost use Rattle.js_meaning.specs.Blocks.{declared_of, declare, open_names as opening};
 ghost use Rattle.js_meaning.specs.Loops.{next_scope};

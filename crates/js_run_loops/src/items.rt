@@ -1,6 +1,6 @@
 //! What a for-of runs over (GetIterator; ECMA-262, section 7.4.3).
 
-ghost use Rattle.std.specs.Prelude.{◌≡◌, ◌≤◌, ◌<◌, ℕ, IfOk, true, false};
+ghost use Rattle.std.specs.Prelude.{◌≡◌, ◌<◌, ℕ, IfOk};
 ghost use Rattle.term_table.specs.Fitting.{Fits};
 ghost use Rattle.term_table.specs.Views.{View, at as seen_at};
 ghost use Rattle.js_meaning.specs.Loops.{of_start};

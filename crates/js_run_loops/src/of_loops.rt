@@ -1,8 +1,7 @@
 //! for-of, over arrays (ECMA-262, section 14.7.5).
 
-ghost use Rattle.std.specs.Prelude.{◌≡◌, ◌≤◌, ◌<◌, ◌+◌, ◌*◌, suc, IfOk, true, false};
+ghost use Rattle.std.specs.Prelude.{◌≡◌, ◌<◌, ◌+◌, suc, IfOk, true, false};
 ghost use Rattle.term_table.specs.Fitting.{Fits};
-ghost use Rattle.term_table.specs.Views.{View};
 ghost use Rattle.js_ast.specs.declared.statement.Stmt.TheVariants.{ForOf};
 ghost use Rattle.js_meaning.specs.Blocks.{is_let as letting};
 ghost use Rattle.js_state.specs.Fitting.{InCompletion};

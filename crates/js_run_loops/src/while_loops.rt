@@ -1,8 +1,7 @@
 //! `while` (ECMA-262, section 14.7.3).
 
-ghost use Rattle.std.specs.Prelude.{◌≡◌, ◌≤◌, ◌<◌, ◌+◌, ◌*◌, IfOk, true, false};
+ghost use Rattle.std.specs.Prelude.{◌<◌, ◌+◌, IfOk};
 ghost use Rattle.term_table.specs.Fitting.{Fits};
-ghost use Rattle.term_table.specs.Views.{View};
 ghost use Rattle.js_ast.specs.declared.statement.Stmt.TheVariants.{While};
 ghost use Rattle.js_meaning.specs.Loops.{round as rounding};
 ghost use Rattle.js_meaning.specs.Meaning.{stmt};
