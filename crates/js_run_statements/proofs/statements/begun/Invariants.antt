@@ -1,0 +1,10 @@
+use Rattle.std.proofs.Common.{◌≡◌}
+use Rattle.js_meaning.specs.Meaning.{stmt}
+use Rattle.js_run_statements.specs.Idle.{is_idle}
+use Rattle.js_run_statements.proofs.statements.begun.Given as goal
+
+abbrev pub invariant-down : goal.invariant-down
+invariant-down l = record {
+  means : stmt l.part ≡ stmt l.fn.tree;
+  idle : is_idle l.part ≡ is_idle l.fn.tree;
+}
