@@ -1,3 +1,4 @@
+pub mod Going
 pub mod Later
 pub mod Opens
 pub mod Passing

@@ -1,4 +1,5 @@
 pub mod Credit
 pub mod Fitting
+pub mod Idle
 pub mod Machine
 pub mod Weight

@@ -1,9 +1,10 @@
 -- A number that falls at each step of the machine: nodes and turns pay for frames.
-use Rattle.std.specs.Prelude.{ℕ, ◌<◌, ◌+◌, ◌-◌, ◌*◌, List, [], ◌∷◌}
+use Rattle.std.specs.Prelude.{ℕ, ◌<◌, ◌+◌, ◌-◌, ◌*◌, Bool, true, false, List, [], ◌∷◌}
 use Rattle.js_meaning.specs.Running.{node_limit}
 use Rattle.js_state.specs.Held.{Contents}
 use Rattle.js_state.specs.declared.completion.Completion.{Completion}
 use Rattle.js_state.specs.declared.completion.Completion.TheVariants.{Stop}
+use Rattle.js_frames.specs.Idle.{is_idle}
 use Rattle.js_frames.specs.declared.parts.Part.{Part}
 use Rattle.js_frames.specs.declared.parts.Part.TheVariants as part
 use Rattle.js_frames.specs.declared.frames.Frame.{Frame}
@@ -40,9 +41,14 @@ abbrev pub cost_of_given : Completion → ℕ
 cost_of_given (Stop e) = 0
 cost_of_given _ = 3
 
+-- a statement that counts nothing pays for its end
+abbrev pub cost_of_exec : Bool → ℕ
+cost_of_exec true = 4
+cost_of_exec false = 1
+
 abbrev pub cost_of_work : Work → ℕ
 cost_of_work (work.Eval e scope) = 1
-cost_of_work (work.Exec s scope) = 1
+cost_of_work (work.Exec s scope) = cost_of_exec (is_idle s.now)
 cost_of_work (work.Enter ss scope) = 9
 cost_of_work (work.Declare ds scope) = 14
 cost_of_work (work.Invoke g) = 17

@@ -5,7 +5,9 @@
 mod frames;
 mod loops;
 mod parts;
+mod skipping;
 
 pub use frames::{Frame, Frames, Work};
 pub use loops::{DoLoop, ForLoop, OfLoop, WhileLoop};
 pub use parts::{Aim, Gathered, Goal, Part};
+pub use skipping::is_idle;

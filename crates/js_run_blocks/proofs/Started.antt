@@ -1,5 +1,5 @@
 -- Functions that are made one after the other, and statements that run so.
-use Rattle.std.proofs.Common.{◌≡◌, ◌≤◌, ◌<◌, ℕ, List, [], ◌∷◌, length, get_or, refl, ap, ◌∙◌, sym, arith}
+use Rattle.std.proofs.Common.{◌≡◌, ◌≤◌, ◌<◌, ℕ, List, [], ◌∷◌, length, get_or, false, refl, ap, subst, ◌∙◌, sym, arith}
 use Rattle.std.proofs.lemmas.List.{append-nil}
 use Rattle.js_ast.specs.declared.expression.Expr.{Expr}
 use Rattle.js_ast.specs.declared.expression.Expr.TheOpen.{Stmt-F}
@@ -12,6 +12,8 @@ use Rattle.js_meaning.specs.Running.{Outcome, Completion as Ending, given, refer
 use Rattle.js_meaning.specs.Builtins.{Calls}
 use Rattle.js_meaning.specs.Blocks.{start_function, run_all}
 use Rattle.js_meaning.specs.Meaning.{stmt, stmts}
+use Rattle.js_meaning.specs.Parts.{Meaning}
+use Rattle.js_frames.specs.Idle.{is_idle, FirstCounts}
 
 layer_starts : (f : Stmt-F Expr Stmt Arm) (scope : Scope) (st : Place) (go : Place → Outcome) →
     ((site : ℕ) (name : Identifier) (ps : List Identifier) (body : List Stmt) → f ≡ Stmt-F.Function site name ps body → ⊥) →
@@ -74,3 +76,12 @@ pub run_last : (x : Stmt) (calls : Calls) (k : ℕ) (scope : Scope) (st : Place)
 unfolding stmts
 run_last x calls k scope st =
     ap {B = Outcome} (bind (stmt x calls k scope st)) (λ i st e. ends_as st e i) ∙ bind_done (stmt x calls k scope st)
+
+-- a statement that does nothing is passed over
+pub run_skips : (x : Stmt) (xs : List Stmt) (calls : Calls) (k : ℕ) (scope : Scope) (st : Place) → stmt x ≡ (λ calls k scope st. done st normal) →
+    run_all (stmts xs) calls k scope st ≡ run_all (stmts (x ∷ xs)) calls k scope st
+run_skips x xs calls k scope st e =
+    sym (run_more x xs calls k scope st ∙ ap {B = Outcome} (λ (m : Meaning). bind (m calls k scope st) (on_normal (run_all (stmts xs) calls k scope))) e)
+
+pub first_counts : (xs : List Stmt) (x : Stmt) (ys : List Stmt) → xs ≡ x ∷ ys → FirstCounts xs → is_idle x ≡ false
+first_counts xs x ys e h = subst FirstCounts e h

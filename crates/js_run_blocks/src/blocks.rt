@@ -1,9 +1,10 @@
 //! Blocks (ECMA-262, section 14.2): what is done on entry, and statements in their order.
 
-ghost use Rattle.std.specs.Prelude.{◌≡◌, ◌≤◌, ◌<◌, ◌+◌, ◌*◌, IfOk, true, false};
+ghost use Rattle.std.specs.Prelude.{◌≡◌, ◌≤◌, ◌<◌, ◌+◌, ◌*◌, ℕ, IfOk, true, false};
 ghost use Rattle.term_table.specs.Fitting.{Fits};
 ghost use Rattle.term_table.specs.Views.{View};
 ghost use Rattle.js_meaning.specs.Blocks.{run_all, enter as entering};
+ghost use Rattle.js_meaning.specs.Builtins.{Calls};
 ghost use Rattle.js_meaning.specs.Meaning.{stmts};
 ghost use Rattle.js_meaning.specs.Running.{Outcome};
 ghost use Rattle.js_meaning.specs.Values.{Place, Scope as SpecScope};
@@ -14,6 +15,7 @@ ghost use Rattle.js_state.specs.Seen.{place_of, MatchResult};
 ghost use Rattle.js_state.specs.Spending.{credit_of_given};
 ghost use Rattle.js_frames.specs.Credit.{Earns, credits, credit_of_work};
 ghost use Rattle.js_frames.specs.Fitting.{FitFrames, FitAll};
+ghost use Rattle.js_frames.specs.Idle.{FirstCounts};
 ghost use Rattle.js_frames.specs.Machine.{Leads, Resumes, doing, thread};
 ghost use Rattle.js_frames.specs.Weight.{Falls, cost_of_work, cost_of_given};
 ghost use Rattle.js_frames.specs.declared.frames.Frame.TheVariants.{Rest};
@@ -22,9 +24,24 @@ ghost use Rattle.js_frames.specs.declared.frames.Work.TheVariants.{Enter};
 use crate::functions::start_functions;
 use crate::names::open_all;
 use js_ast::Stmt;
-use js_frames::{Frame, Frames, Work};
+use js_frames::{Frame, Frames, Work, is_idle};
 use js_state::{Completion, Scope, State};
 use js_units::NoMemory;
+
+/// The statements from the first one on that counts a node. Those before it do nothing.
+fn from_counted<'a>(body: &'a [Stmt]) -> &'a [Stmt]
+    ensures does { (calls : Calls) (k : ℕ) (scope : SpecScope) (st : Place) → run_all (stmts result.now) calls k scope st ≡ run_all (stmts body.entry.now) calls k scope st }
+    ensures counts { FirstCounts result.now }
+{
+    let mut left = body;
+    while let [first, rest @ ..] = left {
+        if !is_idle(first) {
+            return left;
+        }
+        left = rest;
+    }
+    left
+}
 
 /// The statements from here on. Behind the last one nothing waits.
 fn run<'a>(frames: &mut Frames<'a>, body: &'a [Stmt], scope: Scope) -> Result<Work<'a>, NoMemory>
@@ -33,7 +50,8 @@ fn run<'a>(frames: &mut Frames<'a>, body: &'a [Stmt], scope: Scope) -> Result<Wo
     ensures earns { IfOk result (λ next. credits frames.new + credit_of_work next ≤ credits frames.old) }
     ensures fits { (st : Contents) → FitFrames st frames.old → IfOk result (λ next. FitAll st frames.new next) }
 {
-    match body {
+    let counted = from_counted(body);
+    match counted {
         [] => Ok(Work::Give(Completion::Normal)),
         [last] => Ok(Work::Exec(last, scope)),
         [first, rest @ ..] => {

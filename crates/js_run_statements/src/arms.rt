@@ -29,7 +29,7 @@ pub(crate) fn arms_from<'a>(
 ) -> Result<Work<'a>, NoMemory>
     requires { FitFrames state.old frames.old }
     ensures leads { IfOk result (λ next. Leads state.old frames.old (λ view st w. doing w (on_arms arms.entry.now (optional (option_map beside alternate.entry.now))) scope (place_of view st)) state.new frames.new next) }
-    ensures falls { IfOk result (λ next. Falls state.old frames.old 4 state.new frames.new (cost_of_work next)) }
+    ensures falls { IfOk result (λ next. Falls state.old frames.old 5 state.new frames.new (cost_of_work next)) }
     ensures counts { 1 ≤ length arms.entry.now → IfOk result (λ next. Falls state.old frames.old 1 state.new frames.new (cost_of_work next)) }
     ensures earns { IfOk result (λ next. Earns state.old state.new (credits frames.old) (credits frames.new + credit_of_work next)) }
     ensures fits { IfOk result (λ next. FitAll state.new frames.new next) }

@@ -13,15 +13,15 @@ ghost use Rattle.js_state.specs.Seen.{place_of};
 ghost use Rattle.js_frames.specs.Credit.{Earns, credits, credit_of_work};
 ghost use Rattle.js_frames.specs.Fitting.{FitFrames, FitAll, InWork};
 ghost use Rattle.js_frames.specs.Machine.{Fuel, Execs, Leads, thread};
-ghost use Rattle.js_frames.specs.Weight.{Falls, cost_of_work};
+ghost use Rattle.js_frames.specs.Weight.{Falls, cost_of_exec, cost_of_work};
 ghost use Rattle.js_frames.specs.declared.frames.Frame.{Frame as SpecFrame};
-ghost use Rattle.js_run_statements.specs.Idle.{is_idle};
+ghost use Rattle.js_frames.specs.Idle.{is_idle as idle};
 
 use crate::arms::arms_from;
 use crate::tries::begin_try;
 use crate::values::begin_value;
 use js_ast::Stmt;
-use js_frames::{Frames, Part, Work};
+use js_frames::{Frames, Part, Work, is_idle};
 use js_run_loops::{begin_do, begin_for, begin_of, begin_while};
 use js_state::{Completion, Scope, State, UNDEFINED, cut};
 use js_units::NoMemory;
@@ -30,7 +30,7 @@ use path_core::Budget;
 /// What is begun in the place of a statement: an `if` with no arms, which no script spells, counts no node.
 fn begun<'a>(tree: &'a Stmt) -> &'a Stmt
     ensures means { stmt result.now ≡ stmt tree.entry.now }
-    ensures counts { is_idle tree.entry.now ≡ false → (alternate : Option SpecStmt) → result.now ≡ If [] alternate → ⊥ }
+    ensures counts { idle tree.entry.now ≡ false → (alternate : Option SpecStmt) → result.now ≡ If [] alternate → ⊥ }
 {
     let mut part = tree;
     'down: loop {
@@ -165,7 +165,7 @@ fn begin<'a>(
     }
 }
 
-/// A statement is begun. It counts a node, but for an `if` that has neither arms nor an alternative.
+/// A statement is begun. One that counts no node, as no script spells it, is done at once.
 pub fn exec<'a>(
     state: &mut State<'a>,
     frames: &mut Frames<'a>,
@@ -174,10 +174,13 @@ pub fn exec<'a>(
 ) -> Result<Work<'a>, NoMemory>
     requires { FitFrames state.old frames.old }
     ensures leads { IfOk result (λ next. Execs state.old frames.old tree.entry.now scope state.new frames.new next) }
-    ensures falls { is_idle tree.entry.now ≡ false → IfOk result (λ next. Falls state.old frames.old 1 state.new frames.new (cost_of_work next)) }
+    ensures falls { IfOk result (λ next. Falls state.old frames.old (cost_of_exec (idle tree.entry.now)) state.new frames.new (cost_of_work next)) }
     ensures earns { IfOk result (λ next. Earns state.old state.new (credits frames.old) (credits frames.new + credit_of_work next)) }
     ensures fits { IfOk result (λ next. FitAll state.new frames.new next) }
 {
+    if is_idle(tree) {
+        return Ok(Work::Give(Completion::Normal));
+    }
     let part = begun(tree);
     let work = begin(state, frames, part, scope)?;
     Ok(work)

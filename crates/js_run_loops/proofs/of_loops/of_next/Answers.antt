@@ -1,5 +1,7 @@
 use Rattle.std.proofs.Common.{refl, suc, ◌∙◌, ap, arith}
 use Rattle.term_table.specs.Fitting.{Fits}
+use Rattle.js_frames.specs.Idle.{is_idle}
+use Rattle.js_frames.proofs.Going.{exec_few}
 use Rattle.js_frames.proofs.Steps.{stays, rounds, leads, quiet_both, quiet_of, where_true, where_false, still}
 use Rattle.js_frames.proofs.Passing.{stop_fits, err_stops}
 use Rattle.js_frames.proofs.Later.{frames_same, fits_same}
@@ -31,3 +33,9 @@ returns-in_ok-push-in-Ok-clause-fits c = rw c.in_ok-push-in-Ok.ensures.ok ((tt, 
 
 pub overflow_add-index : goal.overflow_add-index
 overflow_add-index c = let within = (rw c.in-Some.is at c.in_ok-found.ensures.within) in omega (arith, within)
+
+pub returns-in_ok-push-in-Ok-clause-falls : goal.returns-in_ok-push-in-Ok-clause-falls
+returns-in_ok-push-in-Ok-clause-falls c =
+    let taken = c.take_turn.ensures.taken c.if-not-take_turn.false in
+    let few = exec_few (is_idle c.get.result.now) in
+    rw (c.in_ok-push-in-Ok.ensures.ok, c.in_ok-opened.ensures.still.nodes, c.take_turn.ensures.nodes) (omega (arith, taken, few, c.in_ok-opened.ensures.still.turns))

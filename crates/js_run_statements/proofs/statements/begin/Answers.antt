@@ -10,7 +10,7 @@ use Rattle.js_state.specs.Seen.{place_of}
 use Rattle.js_frames.specs.Machine.{calling, doing}
 use Rattle.js_frames.proofs.Steps.{leads_from}
 use Rattle.js_frames.proofs.Statements as opens
-use Rattle.js_run_statements.proofs.Going.{needs_arms}
+use Rattle.js_frames.proofs.Going.{needs_arms}
 use Rattle.js_run_statements.proofs.statements.begin.Goals as goal
 
 pub returns-in-Block-clause-leads : goal.returns-in-Block-clause-leads

@@ -1,7 +1,7 @@
 use Rattle.std.proofs.Common.{refl, ◌∙◌, ap, sym, arith}
 use Rattle.js_meaning.specs.Meaning.{stmt}
-use Rattle.js_run_statements.specs.Idle.{is_idle}
-use Rattle.js_run_statements.proofs.Going.{means_other, idle_other, idle_alone}
+use Rattle.js_frames.specs.Idle.{is_idle}
+use Rattle.js_frames.proofs.Going.{means_other, idle_other, idle_alone}
 use Rattle.js_run_statements.proofs.statements.begun.Goals as goal
 
 pub down-init : goal.down-init

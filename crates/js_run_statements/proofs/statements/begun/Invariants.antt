@@ -1,6 +1,6 @@
 use Rattle.std.proofs.Common.{◌≡◌}
 use Rattle.js_meaning.specs.Meaning.{stmt}
-use Rattle.js_run_statements.specs.Idle.{is_idle}
+use Rattle.js_frames.specs.Idle.{is_idle}
 use Rattle.js_run_statements.proofs.statements.begun.Given as goal
 
 abbrev pub invariant-down : goal.invariant-down
