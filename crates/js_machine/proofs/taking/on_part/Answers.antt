@@ -1,0 +1,10 @@
+use Rattle.std.proofs.Common.{refl}
+use Rattle.js_frames.specs.Machine.{part_of}
+use Rattle.js_frames.proofs.Steps.{stays, leads, both, still}
+use Rattle.js_machine.proofs.taking.on_part.Goals as goal
+
+pub returns-in_ok-work-in-Ok-clause-leads : goal.returns-in_ok-work-in-Ok-clause-leads
+returns-in_ok-work-in-Ok-clause-leads c = leads (both (stays still refl (λ view w. c.in-Ok.ensures.goes view (part_of view w c.args.part))) c.in_ok-work-in-Ok.ensures.leads.to)
+
+pub returns-in-Err-clause-leads : goal.returns-in-Err-clause-leads
+returns-in-Err-clause-leads c = leads (stays still refl (λ view w. c.in-Err.ensures.goes view (part_of view w c.args.part)))
