@@ -11,6 +11,10 @@ pub as_told : (r : Result Decided NoMemory) (number : ℕ) (text : List ℕ) (P 
 as_told (Ok d) number text P n t h = subst (λ (k : ℕ). P k d.text.items) (sym n) (subst (λ (x : List ℕ). P number x) (sym t) h)
 as_told (Err e) number text P n t h = tt
 
+pub as_told_where : (r : Result Decided NoMemory) (R : Type 0) (number : ℕ) (text : List ℕ) (P : ℕ → List ℕ → Type 0) → IfOk r (λ d. d.number ≡ number) → IfOk r (λ d. d.text.items ≡ text) → IfOk r (λ d. R) → (R → P number text) → IfOk r (λ d. P d.number d.text.items)
+as_told_where (Ok d) R number text P n t w h = as_told (Ok d) number text P n t (h w)
+as_told_where (Err e) R number text P n t w h = tt
+
 pub first_failed : (words : List Name) (seen : Seen) (files : Name × Name) → listed_files words ≡ Some files → IsFailed files.0 max_file seen.last seen.before seen.now
     → IsDecided words seen 3 (READ_FAULT.now ++ decimal 1 ++ LINE_END.now)
 first_failed words seen files w h =

@@ -7,7 +7,12 @@ use Rattle.path_core.specs.Form.{form}
 use Rattle.path_core.specs.Inputs.{within}
 use Rattle.ex_base.specs.Outside.{Told, holds, IsWhole, IsLonger}
 use Rattle.explorer.specs.Listing.{max_inputs}
-use Rattle.commands.specs.TopCall.{Name, listed_files, max_file, Seen, IsUsage, IsReadFault, IsTooLong, AreListable, IsBoundsRefused, IsTooMany, IsScriptRefused, ListAnswer, IsAnswered, IsDecided, ToldList, HeldList, IsUnfailed, AreNoBounds, IsNoScript, AreAccepted, IsOverlong}
+use Rattle.js_ast.specs.declared.statement.Script.{Script}
+use Rattle.js_parser.specs.Refusals.{IsReason}
+use Rattle.js_parser.specs.Spelling.{Spells}
+use Rattle.js_parser.specs.declared.refusal.ScriptRefusal.{ScriptRefusal}
+use Rattle.commands.specs.declared.texts.TheConstants.{SCRIPT_REFUSED}
+use Rattle.commands.specs.TopCall.{Name, listed_files, max_file, Seen, IsUsage, IsReadFault, IsTooLong, AreListable, IsBoundsRefused, IsTooMany, IsScriptRefused, ListAnswer, IsAnswered, IsDecided, ToldList, HeldList, IsUnfailed, AreNoBounds, IsNoScript, IsBadScript, AreAccepted, IsOverlong, reason_text}
 
 abbrev some_files : Name × Name → Option (Name × Name)
 some_files f = Some f
@@ -117,6 +122,18 @@ only_5 script bounds number text h none =
       | inr (inl m) ↦ absurd (refused_or_accepted bounds none.0 (inr (m.accepted, m.formed, m.many)) none.1)
       | inr (inr (inl s)) ↦ s.number_is
       | inr (inr (inr l)) ↦ absurd (none.2 l.spelt l.spells)
+    ]
+
+-- bytes have one reason, and those that spell a script have none
+pub why_5 : (script bounds : List ℕ) (refused : ScriptRefusal) (number : ℕ) (text : List ℕ) → ((bytes : List ℕ) (e f : ScriptRefusal) → IsReason bytes e → IsReason bytes f → e ≡ f)
+    → ((bytes : List ℕ) (s : Script) (e : ScriptRefusal) → Spells bytes s → IsReason bytes e → ⊥) → ListAnswer script bounds number text → IsBadScript script bounds refused
+    → text ≡ SCRIPT_REFUSED.now ++ reason_text refused
+why_5 script bounds refused number text alone apart h bad =
+    elim h [
+      | inl b ↦ absurd (refused_or_accepted bounds bad.accepted (inl (b.refused, b.none)) bad.formed)
+      | inr (inl m) ↦ absurd (refused_or_accepted bounds bad.accepted (inr (m.accepted, m.formed, m.many)) bad.formed)
+      | inr (inr (inl s)) ↦ s.text_is ∙ ap (λ (e : ScriptRefusal). SCRIPT_REFUSED.now ++ reason_text e) (alone script s.refused refused s.reason bad.reason)
+      | inr (inr (inr l)) ↦ absurd (apart script l.spelt refused l.spells bad.reason)
     ]
 
 pub only_0 : (script bounds : List ℕ) (number : ℕ) (text : List ℕ) → ListAnswer script bounds number text → AreAccepted script bounds → number ≡ 0

@@ -9,13 +9,15 @@ use Rattle.path_core.specs.declared.bounds.BoundsRefusal.{BoundsRefusal}
 use Rattle.path_core.specs.declared.bounds.BoundsRefusal.TheVariants as refusal
 use Rattle.path_core.specs.Form.{form}
 use Rattle.path_core.specs.Inputs.{within}
-use Rattle.small_ast.specs.declared.tree.Script.{Script}
+use Rattle.js_ast.specs.declared.statement.Script.{Script}
+use Rattle.js_parser.specs.Refusals.{IsReason}
+use Rattle.js_parser.specs.Spelling.{Spells}
+use Rattle.js_parser.specs.declared.refusal.ScriptRefusal.{ScriptRefusal}
+use Rattle.js_parser.specs.declared.refusal.ScriptRefusal.TheVariants as reason
 use Rattle.report_text.specs.declared.report.Report.{Report}
-use Rattle.small_parser.specs.Grammar.{Spells}
-use Rattle.small_parser.specs.Refusals.{IsSyntax}
 use Rattle.report_text.specs.Lines.{report_text}
 use Rattle.explorer.specs.Listing.{max_inputs, IsListed}
-use Rattle.commands.specs.declared.texts.TheConstants.{USAGE, READ_FAULT, TOO_LONG, BOUNDS_REFUSED, TOO_MANY, JSON, VERSION, FIELD, RANGE, ALPHABET, SCRIPT_REFUSED, SYNTAX, LINE_END}
+use Rattle.commands.specs.declared.texts.TheConstants.{USAGE, READ_FAULT, TOO_LONG, BOUNDS_REFUSED, TOO_MANY, JSON, VERSION, FIELD, RANGE, ALPHABET, SCRIPT_REFUSED, UTF8, SYNTAX, NUMBER, NAME, DEPTH, LINE_END}
 
 abbrev pub Name : Type 0
 Name = List ℕ
@@ -124,15 +126,24 @@ pub record AreListable (bounds : List ℕ) (accepted : Bounds) : Type 0 where
   pub formed : form bounds ≡ Ok accepted
   pub few : length (within accepted.inputs) ≤ max_inputs
 
--- no script stands in the first file, and the place of its refusal is told
+-- a place, and then utf8, syntax, number, name or depth
+abbrev pub reason_text : ScriptRefusal → List ℕ
+reason_text (reason.Utf8 at) = decimal at ++ UTF8.now
+reason_text (reason.Syntax at) = decimal at ++ SYNTAX.now
+reason_text (reason.WideNumber at) = decimal at ++ NUMBER.now
+reason_text (reason.EarlyName at) = decimal at ++ NAME.now
+reason_text (reason.TooDeep at) = decimal at ++ DEPTH.now
+reason_text reason.NoMemory = []
+
+-- no script stands in the first file, and the reason that comes first is told with its place
 pub record IsScriptRefused (script bounds : List ℕ) (number : ℕ) (text : List ℕ) : Type 0 where
   pub accepted : Bounds
   pub formed : AreListable bounds accepted
   pub none : (s : Script) → ¬ Spells script s
-  pub place : ℕ
-  pub place_is : IsSyntax script place
+  pub refused : ScriptRefusal
+  pub reason : IsReason script refused
   pub number_is : number ≡ 5
-  pub text_is : text ≡ SCRIPT_REFUSED.now ++ decimal place ++ SYNTAX.now
+  pub text_is : text ≡ SCRIPT_REFUSED.now ++ reason_text refused
 
 -- the paths are listed
 pub record IsListing (script bounds : List ℕ) (number : ℕ) (text : List ℕ) : Type 0 where
@@ -211,6 +222,12 @@ AreNoBounds bounds = ((refused : BoundsRefusal) × (form bounds ≡ Err refused)
 -- the bounds are accepted, and the bytes spell no script
 abbrev pub IsNoScript : List ℕ → List ℕ → Type 0
 IsNoScript script bounds = (accepted : Bounds) × AreListable bounds accepted × ((s : Script) → ¬ Spells script s)
+
+-- the bounds are accepted, and there is this reason against the script; no bytes have two
+pub record IsBadScript (script bounds : List ℕ) (refused : ScriptRefusal) : Type 0 where
+  pub accepted : Bounds
+  pub formed : AreListable bounds accepted
+  pub reason : IsReason script refused
 
 -- both are accepted
 abbrev pub AreAccepted : List ℕ → List ℕ → Type 0

@@ -1,20 +1,21 @@
 //! What is answered, before anything is written.
 
-ghost use Rattle.std.specs.Prelude.{◌≡◌, ◌++◌, ◌≤◌, ℕ, None, length, decimal, IfOk, OnOk};
+ghost use Rattle.std.specs.Prelude.{◌≡◌, ◌++◌, ◌≤◌, ℕ, List, None, length, decimal, IfOk, OnOk};
 ghost use Rattle.std.specs.Option.{option_map};
 ghost use Rattle.js_units.specs.Quoted.{quoted};
-ghost use Rattle.commands.specs.TopCall.{listed_files, names, seen_by, IsDecided, max_file, refusal_text, ListAnswer};
+ghost use Rattle.js_parser.specs.Refusals.{IsReason, IsRefusedBy};
+ghost use Rattle.commands.specs.TopCall.{listed_files, names, seen_by, IsDecided, max_file, reason_text, refusal_text, ListAnswer};
 
 use crate::texts::{
-    ALPHABET, BOUNDS_REFUSED, FIELD, JSON, LINE_END, RANGE, READ_FAULT, SCRIPT_REFUSED, SYNTAX,
-    TOO_LONG, TOO_MANY, USAGE, VERSION,
+    ALPHABET, BOUNDS_REFUSED, DEPTH, FIELD, JSON, LINE_END, NAME, NUMBER, RANGE, READ_FAULT,
+    SCRIPT_REFUSED, SYNTAX, TOO_LONG, TOO_MANY, USAGE, UTF8, VERSION,
 };
 use ex_base::{Files, Load};
 use explorer::list_all;
+use js_parser::{ScriptRefusal, one_refusal, parse_script};
 use js_units::{NoMemory, Units, escape};
 use path_core::{BoundsRefusal, count, read_bounds};
 use report_text::write_report;
-use small_parser::{ScriptRefusal, parse_script};
 use std::alloc::Global;
 
 /// A status, and the text that is written with it.
@@ -119,6 +120,22 @@ fn too_many(alloc: Global) -> Result<Decided, NoMemory>
     Ok(Decided { number: 6, text })
 }
 
+fn refused_script(alloc: Global, refusal: ScriptRefusal) -> Result<Decided, NoMemory>
+    ensures number { IfOk result (λ d. d.number ≡ 5) }
+    ensures text { IfOk result (λ d. d.text.items ≡ SCRIPT_REFUSED.now ++ reason_text refusal) }
+    // Want of memory is no reason against a script.
+    ensures reason { (bytes : List ℕ) → IsRefusedBy bytes refusal → IfOk result (λ d. IsReason bytes refusal) }
+{
+    match refusal {
+        ScriptRefusal::Utf8 { at } => told(alloc, 5, SCRIPT_REFUSED, at, UTF8),
+        ScriptRefusal::Syntax { at } => told(alloc, 5, SCRIPT_REFUSED, at, SYNTAX),
+        ScriptRefusal::WideNumber { at } => told(alloc, 5, SCRIPT_REFUSED, at, NUMBER),
+        ScriptRefusal::EarlyName { at } => told(alloc, 5, SCRIPT_REFUSED, at, NAME),
+        ScriptRefusal::TooDeep { at } => told(alloc, 5, SCRIPT_REFUSED, at, DEPTH),
+        ScriptRefusal::NoMemory => Err(NoMemory),
+    }
+}
+
 /// The answer of `list` to the bytes of a script and of bounds.
 fn answer(alloc: Global, script: &[u8], bounds: &[u8]) -> Result<Decided, NoMemory>
     requires { length script.now ≤ max_file }
@@ -132,12 +149,10 @@ fn answer(alloc: Global, script: &[u8], bounds: &[u8]) -> Result<Decided, NoMemo
     if count(&bounds) > MAX_INPUTS {
         return too_many(alloc);
     }
+    one_refusal();
     let script = match parse_script(alloc, script) {
         Ok(script) => script,
-        Err(ScriptRefusal::NoMemory) => return Err(NoMemory),
-        Err(ScriptRefusal::Syntax { at }) => {
-            return told(alloc, 5, SCRIPT_REFUSED, at, SYNTAX);
-        }
+        Err(refusal) => return refused_script(alloc, refusal),
     };
     let report = list_all(alloc, &script, &bounds)?;
     let text = write_report(alloc, &report, true)?;

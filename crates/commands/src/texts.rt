@@ -32,7 +32,19 @@ pub const ALPHABET: &str = "alphabet ";
 /// In front of the byte offset.
 pub const SCRIPT_REFUSED: &str = "script refused at ";
 
-/// Behind the byte offset.
+/// Behind the byte offset: the bytes aren't UTF-8.
+pub const UTF8: &str = ": utf8\n";
+
+/// Behind the byte offset: no script goes on there.
 pub const SYNTAX: &str = ": syntax\n";
+
+/// Behind the byte offset: a number above 2^53 - 1.
+pub const NUMBER: &str = ": number\n";
+
+/// Behind the byte offset: a name that is declared where it may not be.
+pub const NAME: &str = ": name\n";
+
+/// Behind the byte offset: nested too deep.
+pub const DEPTH: &str = ": depth\n";
 
 pub const LINE_END: &str = "\n";

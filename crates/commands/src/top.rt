@@ -1,11 +1,14 @@
 //! The top call.
 
-ghost use Rattle.std.specs.Prelude.{◌≡◌, ◌≢◌, ◌<◌, ◌⊎◌, ℕ, List, None};
+ghost use Rattle.std.specs.Prelude.{◌≡◌, ◌≢◌, ◌<◌, ◌⊎◌, ◌++◌, ℕ, List, None};
 ghost use Rattle.std.specs.Io.KnownBytes.{Appends, Keeps};
-ghost use Rattle.commands.specs.TopCall.{listed_files, usage, names, seen_by, Writes, IsReadFault, IsTooLong, IsBoundsRefused, IsTooMany, IsScriptRefused, IsListing, IsDecided, IsWriteFault, IsUnfailed, ToldList, HeldList, IsOverlong, AreNoBounds, IsNoScript, AreAccepted};
+ghost use Rattle.js_parser.specs.declared.refusal.ScriptRefusal.{ScriptRefusal};
+ghost use Rattle.commands.specs.declared.texts.TheConstants.{SCRIPT_REFUSED};
+ghost use Rattle.commands.specs.TopCall.{listed_files, usage, names, seen_by, Writes, IsReadFault, IsTooLong, IsBoundsRefused, IsTooMany, IsScriptRefused, IsListing, IsDecided, IsWriteFault, IsUnfailed, ToldList, HeldList, IsOverlong, AreNoBounds, IsNoScript, IsBadScript, AreAccepted, reason_text};
 
 use crate::decide::decide;
 use ex_base::{Files, Sink, WriteFault, write_all};
+use js_parser::one_refusal;
 use js_units::NoMemory;
 use std::alloc::Global;
 use std::thread::Threads;
@@ -55,14 +58,16 @@ pub fn run<R: Threads + Sync, F: Files, K: Sink>(
     ensures bounds_refused { (script bounds : List ℕ) → ToldList (names words.now) (F.held files.old) script bounds → result.number ≡ 6 → Writes (λ text. IsBoundsRefused bounds result.number text ⊎ IsTooMany bounds result.number text) (K.written out.old) (K.written out.new) }
     ensures bounds_refused_only { (script bounds : List ℕ) → HeldList (names words.now) (F.held files.old) script bounds → AreNoBounds bounds → IsUnfailed result.number → result.number ≡ 6 }
 
-    // The script is refused exactly where the bounds are accepted and no script is spelt.
+    // The script is refused exactly where the bounds are accepted and no script is spelt, with the one reason that there is.
     ensures script_refused { (script bounds : List ℕ) → ToldList (names words.now) (F.held files.old) script bounds → result.number ≡ 5 → Writes (λ text. IsScriptRefused script bounds result.number text) (K.written out.old) (K.written out.new) }
     ensures script_refused_only { (script bounds : List ℕ) → HeldList (names words.now) (F.held files.old) script bounds → IsNoScript script bounds → IsUnfailed result.number → result.number ≡ 5 }
+    ensures script_refused_why { (script bounds : List ℕ) (refused : ScriptRefusal) → HeldList (names words.now) (F.held files.old) script bounds → IsBadScript script bounds refused → IsUnfailed result.number → Writes (λ text. text ≡ SCRIPT_REFUSED.now ++ reason_text refused) (K.written out.old) (K.written out.new) }
 
     // The paths are listed exactly where both are accepted: the printed lines are the paths.
     ensures listed { (script bounds : List ℕ) → ToldList (names words.now) (F.held files.old) script bounds → result.number ≡ 0 → Writes (λ text. IsListing script bounds result.number text) (K.written out.old) (K.written out.new) }
     ensures listed_only { (script bounds : List ℕ) → HeldList (names words.now) (F.held files.old) script bounds → AreAccepted script bounds → IsUnfailed result.number → result.number ≡ 0 }
 {
+    one_refusal();
     match decide(alloc, words, files) {
         Ok(decided) => match write_all(out, &decided.text) {
             Ok(()) => Status {

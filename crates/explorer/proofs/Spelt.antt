@@ -10,7 +10,7 @@ use Rattle.js_units.specs.Characters.{is_letter, is_digit, is_name_start, is_nam
 use Rattle.path_core.specs.Names.{is_word}
 use Rattle.path_core.specs.Accepted.{IsAccepted}
 use Rattle.path_core.specs.Inputs.{Values, within}
-use Rattle.small_ast.specs.declared.tree.Script.{Script}
+use Rattle.js_ast.specs.declared.statement.Script.{Script}
 use Rattle.report_text.specs.declared.report.Line.{Line}
 use Rattle.report_text.specs.declared.report.Report.{Report}
 use Rattle.report_text.specs.Lines.{is_ascii, is_item_spelt, IsLineSpelt, AreSpelt}

@@ -5,8 +5,8 @@ use Rattle.path_core.specs.declared.bounds.Declared.{Declared}
 use Rattle.path_core.specs.declared.path.InputValue.{InputValue}
 use Rattle.path_core.specs.declared.path.Path.{Path}
 use Rattle.path_core.specs.Inputs.{Values, within}
-use Rattle.small_ast.specs.declared.tree.Script.{Script}
-use Rattle.small_ast.specs.Meaning.{path_of}
+use Rattle.js_ast.specs.declared.statement.Script.{Script}
+use Rattle.js_meaning.specs.Path.{path_of}
 use Rattle.report_text.specs.declared.report.Line.{Line}
 use Rattle.report_text.specs.declared.report.Line.TheVariants as lines
 use Rattle.report_text.specs.declared.report.Report.{Report}

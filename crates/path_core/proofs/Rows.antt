@@ -16,7 +16,7 @@ use Rattle.std.proofs.lemmas.Str.Ascii.{IsAscii-from_all}
 use Rattle.std.proofs.lemmas.List.Elements.{All-weaker}
 use Rattle.std.proofs.lemmas.List.Sums.{AllPass-from_list_all}
 use Rattle.path_core.specs.Inputs.{Values, within}
-use Rattle.path_core.specs.Form.{form, object_of, version_of, list_of, declared_of, name_of, kind_of, number_of, range_of}
+use Rattle.path_core.specs.Form.{form, object_of, version_of, list_of, declared_of, name_of, kind_of, budgets_of, budget_of, numbers_of, number_of, range_of}
 use Rattle.js_units.specs.Characters.{is_letter, is_digit, is_name_start, is_name_part}
 use Rattle.js_units.specs.Words.{reserved_words}
 use Rattle.path_core.specs.Names.{is_among}
@@ -35,25 +35,25 @@ ascii_utf8 bs e =
     is_utf8-from_IsUtf8 bs (IsUtf8-from_ascii bs (IsAscii-from_all bs (All-weaker (λ b. nat_lt b 128 ≡ true) (λ b. b < 128) (λ b t. ltb-true b 128 t) bs (AllPass-from_list_all (λ b. nat_lt b 128) bs e))))
 
 no_inputs : form (codes "{\"version\":1,\"inputs\":[]}") ≡ Ok (with_inputs [])
-unfolding form object_of version_of list_of is_among serde_json_on_literals
+unfolding form object_of version_of list_of is_among budgets_of budget_of serde_json_on_literals
 no_inputs = rw (ascii_utf8 (codes "{\"version\":1,\"inputs\":[]}") refl) refl
 
 abbrev n_file : List ℕ
 n_file = codes "{\"version\":1,\"inputs\":[{\"name\":\"n\",\"kind\":\"int\",\"low\":0,\"high\":4}]}"
 
 n_from_0_to_4 : form n_file ≡ Ok (with_inputs (n_to 4))
-unfolding form object_of version_of list_of declared_of name_of kind_of number_of range_of is_among reserved_words is_name_part is_name_start is_letter is_digit serde_json_on_literals
+unfolding form object_of version_of list_of declared_of name_of kind_of numbers_of number_of range_of is_among reserved_words is_name_part is_name_start is_letter is_digit budgets_of budget_of serde_json_on_literals
 n_from_0_to_4 = rw (ascii_utf8 n_file refl) refl
 
 abbrev turned_file : List ℕ
 turned_file = codes "{\"version\":1,\"inputs\":[{\"name\":\"n\",\"kind\":\"int\",\"low\":3,\"high\":2}]}"
 
 low_above_high : form turned_file ≡ Err (refusal.Range (codes "n"))
-unfolding form object_of version_of list_of declared_of name_of kind_of number_of range_of is_among reserved_words is_name_part is_name_start is_letter is_digit serde_json_on_literals
+unfolding form object_of version_of list_of declared_of name_of kind_of numbers_of number_of range_of is_among reserved_words is_name_part is_name_start is_letter is_digit budgets_of budget_of serde_json_on_literals
 low_above_high = rw (ascii_utf8 turned_file refl) refl
 
 no_input_list : form (codes "{\"version\":1}") ≡ Err (refusal.Field (codes "inputs"))
-unfolding form object_of version_of list_of serde_json_on_literals
+unfolding form object_of version_of list_of budgets_of budget_of serde_json_on_literals
 no_input_list = rw (ascii_utf8 (codes "{\"version\":1}") refl) refl
 
 -- the inputs of no name: one

@@ -1,5 +1,6 @@
 -- Which bounds a file stands for, or the first reason why it stands for none.
-use Rattle.std.specs.Prelude.{◌||◌, negsuc, int_le, nat_le, bytes_eq, ◌≡◌, ◌&&◌, ℕ, suc, ℤ, pos, List, [], ◌∷◌, ◌++◌, length, codes, Bool, true, false, not, nat_lt, nat_eq, Option, Some, None, option_and_then, Result, Ok, Err, if◌then◌else◌, ⊤, is_some}
+use Rattle.std.specs.Prelude.{◌||◌, nat_eq, negsuc, int_le, nat_le, bytes_eq, ◌≡◌, ◌&&◌, ℕ, suc, ℤ, pos, List, [], ◌∷◌, ◌++◌, length, codes, Bool, true, false, not, nat_lt, Option, Some, None, option_and_then, Result, Ok, Err, if◌then◌else◌, ⊤, is_some}
+use Rattle.std.specs.List.{list_any}
 use Rattle.std.specs.Str.{is_utf8}
 use Rattle.serde_json.specs.Data.{Data, Items, no_items, item, Members, no_members, member}
 use Rattle.serde_json.specs.Read.{read}
@@ -68,7 +69,33 @@ is_one (Some n) = nat_eq n 1
 unfoldable pub version_of : Data → Result ⊤ BoundsRefusal
 version_of file = if is_one (option_and_then as_u64 (option_and_then as_number (get (codes "version") file))) then Ok tt else Err refusal.Version
 
--- 3. The inputs are an array of at most 16 objects.
+-- 3. Each budget that is there is a whole number of at least 0, and within its range.
+
+-- Refused where it is no such number, or out of its range.
+abbrev pub budgeted : List ℕ → ℕ → Option ℕ → Result ℕ BoundsRefusal
+budgeted name most None = field name
+budgeted name most (Some n) = if nat_le 1 n && nat_le n most then Ok n else Err (refusal.Range name)
+
+-- What holds where the member isn't there, else what it says.
+abbrev pub budget_or : List ℕ → ℕ → ℕ → Option Data → Result ℕ BoundsRefusal
+budget_or name most usual None = Ok usual
+budget_or name most usual (Some d) = budgeted name most (option_and_then as_u64 (as_number d))
+
+-- The budget of this name, at most so much.
+unfoldable pub budget_of : List ℕ → ℕ → ℕ → Data → Result ℕ BoundsRefusal
+budget_of name most usual file = budget_or name most usual (get name file)
+
+-- The five budgets, in order, before any input.
+unfoldable pub budgets_of : Data → Result Bounds BoundsRefusal
+budgets_of file = do
+  turns ← budget_of (codes "turns") 1000000 1000 file
+  paths ← budget_of (codes "paths") 65536 1000 file
+  candidates ← budget_of (codes "candidates") 65536 64 file
+  steps ← budget_of (codes "steps") 9007199254740991 1000000 file
+  width ← budget_of (codes "width") 1000000000 20000000 file
+  Ok (record { turns = turns; paths = paths; candidates = candidates; steps = steps; width = width; pieces = 1; inputs = [] })
+
+-- 4. The inputs are an array of at most 16 objects.
 
 -- How many there are.
 abbrev pub items_count : Items → ℕ
@@ -89,7 +116,7 @@ as_list (Some ds) = if nat_lt 16 (items_count ds) then field (codes "inputs") el
 unfoldable pub list_of : Data → Result Items BoundsRefusal
 list_of file = as_list (option_and_then as_array (get (codes "inputs") file))
 
--- 4. Each input, in order: its name, its kind, its numbers, its range.
+-- 5. Each input, in order: its name, its kind, its other members, its range, its alphabet.
 
 -- An earlier input has this name.
 abbrev pub is_declared : List ℕ → List Declared → Bool
@@ -109,21 +136,25 @@ named found (Some name) = if is_free name found then Ok name else field (codes "
 unfoldable pub name_of : List Declared → Data → Result (List ℕ) BoundsRefusal
 name_of found d = named found (option_and_then as_str (get (codes "name") d))
 
--- The one kind is the text `int`.
-abbrev pub is_int : Option (List ℕ) → Bool
-is_int None = false
-is_int (Some kind) = bytes_eq kind (codes "int")
+-- It is there, and it is this text.
+abbrev pub is_text : List ℕ → Option (List ℕ) → Bool
+is_text text None = false
+is_text text (Some found) = bytes_eq found text
 
--- The member `kind` of an input.
+-- The member `kind` of an input is this text.
+abbrev pub is_kind : List ℕ → Data → Bool
+is_kind kind d = is_text kind (option_and_then as_str (get (codes "kind") d))
+
+-- The kinds are `int` and `text`.
 unfoldable pub kind_of : Data → Result ⊤ BoundsRefusal
-kind_of d = if is_int (option_and_then as_str (get (codes "kind") d)) then Ok tt else field (codes "kind")
+kind_of d = if is_kind (codes "int") d || is_kind (codes "text") d then Ok tt else field (codes "kind")
 
 -- Refused where there is no whole number of 64 bits.
 abbrev pub whole : List ℕ → Option ℤ → Result ℤ BoundsRefusal
 whole name None = field name
 whole name (Some n) = Ok n
 
--- The member `low` or `high` of an input.
+-- A member of an input that is a number.
 unfoldable pub number_of : List ℕ → Data → Result ℤ BoundsRefusal
 number_of name d = whole name (option_and_then as_integer (option_and_then as_number (get name d)))
 
@@ -139,14 +170,64 @@ is_safe n = int_le (negsuc 9007199254740990) n && int_le n max_safe
 unfoldable pub range_of : List ℕ → ℤ → ℤ → Result Kind BoundsRefusal
 range_of name low high = if int_le low high && is_safe low && is_safe high then Ok (kinds.Int low high) else Err (refusal.Range name)
 
+-- An input of the kind `int`: its ends, then its range.
+unfoldable pub numbers_of : List ℕ → Data → Result Kind BoundsRefusal
+numbers_of name d = do
+  low ← number_of (codes "low") d
+  high ← number_of (codes "high") d
+  range_of name low high
+
+-- A whole number from 0 to 64.
+abbrev pub length_of : ℤ → Option ℕ
+length_of (negsuc n) = None
+length_of (pos n) = if nat_le n 64 then Some n else None
+
+-- Refused where there is no text, else its code units.
+abbrev pub units_or : List ℕ → Option (List ℕ) → Result (List ℕ) BoundsRefusal
+units_or name None = field name
+units_or name (Some text) = Ok (code_units text)
+
+-- The member `alphabet` of an input.
+unfoldable pub alphabet_of : Data → Result (List ℕ) BoundsRefusal
+alphabet_of d = units_or (codes "alphabet") (option_and_then as_str (get (codes "alphabet") d))
+
+-- No unit stands there twice.
+abbrev pub are_distinct : List ℕ → Bool
+are_distinct [] = true
+are_distinct (u ∷ us) = not (list_any (nat_eq u) us) && are_distinct us
+
+-- An alphabet has 1 to 256 units, all different.
+abbrev pub is_alphabet : List ℕ → Bool
+is_alphabet units = nat_le 1 (length units) && nat_le (length units) 256 && are_distinct units
+
+-- Behind the lengths comes the alphabet.
+abbrev pub spelt : List ℕ → ℕ → ℕ → List ℕ → Result Kind BoundsRefusal
+spelt name least most alphabet = if is_alphabet alphabet then Ok (kinds.Text least most alphabet) else Err (refusal.Alphabet name)
+
+-- Neither length is below 0 or above 64, and the least isn't above the most.
+abbrev pub lengths_of : List ℕ → Option ℕ → Option ℕ → List ℕ → Result Kind BoundsRefusal
+lengths_of name None most alphabet = Err (refusal.Range name)
+lengths_of name (Some least) None alphabet = Err (refusal.Range name)
+lengths_of name (Some least) (Some most) alphabet = if nat_le least most then spelt name least most alphabet else Err (refusal.Range name)
+
+-- An input of the kind `text`: its lengths and its alphabet, then what each may be.
+unfoldable pub texts_of : List ℕ → Data → Result Kind BoundsRefusal
+texts_of name d = do
+  least ← number_of (codes "least") d
+  most ← number_of (codes "most") d
+  alphabet ← alphabet_of d
+  lengths_of name (length_of least) (length_of most) alphabet
+
+-- What an input of its kind may be.
+abbrev pub values_of_kind : List ℕ → Data → Result Kind BoundsRefusal
+values_of_kind name d = if is_kind (codes "int") d then numbers_of name d else texts_of name d
+
 -- One input, behind those that were found before it.
 unfoldable pub declared_of : List Declared → Data → Result Declared BoundsRefusal
 declared_of found d = do
   name ← name_of found d
   _ ← kind_of d
-  low ← number_of (codes "low") d
-  high ← number_of (codes "high") d
-  kind ← range_of name low high
+  kind ← values_of_kind name d
   Ok (record { name = name; kind = kind })
 
 -- All inputs, behind those that were found before them.
@@ -154,7 +235,7 @@ abbrev pub declared_from : List Declared → Items → Result (List Declared) Bo
 declared_from found no_items = Ok found
 declared_from found (item d ds) = declared_of found d >>= λ x. declared_from (found ++ x ∷ []) ds
 
--- 5. No other members: those of the file in byte order, then those of each input.
+-- 6. No other members: those of the file in byte order, then those of each input.
 
 -- Refused for the first member that isn't allowed, by the code units of its name.
 abbrev pub only : List (List ℕ) → Members → Result ⊤ BoundsRefusal
@@ -172,24 +253,33 @@ members_of d = members_or (as_object d)
 
 -- The members that the file may have.
 abbrev pub file_members : List (List ℕ)
-file_members = codes "version" ∷ codes "inputs" ∷ []
+file_members = codes "version" ∷ codes "inputs" ∷ codes "turns" ∷ codes "paths" ∷ codes "candidates" ∷ codes "steps" ∷ codes "width" ∷ []
 
--- The members that an input may have.
-abbrev pub input_members : List (List ℕ)
-input_members = codes "name" ∷ codes "kind" ∷ codes "low" ∷ codes "high" ∷ []
+-- The members that an input of the kind `int` may have.
+abbrev pub int_members : List (List ℕ)
+int_members = codes "name" ∷ codes "kind" ∷ codes "low" ∷ codes "high" ∷ []
+
+-- The members that an input of the kind `text` may have.
+abbrev pub text_members : List (List ℕ)
+text_members = codes "name" ∷ codes "kind" ∷ codes "least" ∷ codes "most" ∷ codes "alphabet" ∷ []
+
+-- The members that an input may have, by its kind.
+abbrev pub input_members : Data → List (List ℕ)
+input_members d = if is_kind (codes "int") d then int_members else text_members
 
 -- The members of each input, in order.
 abbrev pub only_in_each : Items → Result ⊤ BoundsRefusal
 only_in_each no_items = Ok tt
-only_in_each (item d ds) = only input_members (members_of d) >>= λ x. only_in_each ds
+only_in_each (item d ds) = only (input_members d) (members_of d) >>= λ x. only_in_each ds
 
 -- The bounds of a file, or the first reason against them.
 unfoldable pub form : List ℕ → Result Bounds BoundsRefusal
 form bytes = do
   file ← object_of bytes
   _ ← version_of file
+  budgets ← budgets_of file
   list ← list_of file
   inputs ← declared_from [] list
   _ ← only file_members (members_of file)
   _ ← only_in_each list
-  Ok (record { turns = 1000; paths = 1000; candidates = 64; steps = 1000000; width = 20000000; pieces = 1; inputs = inputs })
+  Ok (record { turns = budgets.turns; paths = budgets.paths; candidates = budgets.candidates; steps = budgets.steps; width = budgets.width; pieces = budgets.pieces; inputs = inputs })

@@ -1,6 +1,6 @@
 -- All inputs within bounds, in their order: the values of the last name vary fastest.
-use Rattle.std.specs.Prelude.{◌≡◌, ℕ, zero, suc, ◌-◌, ℤ, pos, negsuc, ◌+ℤ◌, ◌-ℤ◌, ◌≤ℤ◌, List, [], ◌∷◌, ◌++◌, map}
-use Rattle.std.specs.List.{flat_map}
+use Rattle.std.specs.Prelude.{◌≡◌, ◌≤◌, nat_eq, length, ℕ, zero, suc, ◌-◌, ℤ, pos, negsuc, ◌+ℤ◌, ◌-ℤ◌, ◌≤ℤ◌, List, [], ◌∷◌, ◌++◌, map}
+use Rattle.std.specs.List.{flat_map, IsDistinct}
 use Rattle.path_core.specs.declared.bounds.Kind.{Kind}
 use Rattle.path_core.specs.declared.bounds.Kind.TheVariants as kinds
 use Rattle.path_core.specs.declared.bounds.Declared.{Declared}
@@ -54,7 +54,15 @@ IsLast xs x = (before after : List Values) → xs ≡ before ++ x ∷ after → 
 abbrev pub IsWithin : List Declared → Values → Type 0
 IsWithin ds x = (before after : List Values) × (within ds ≡ before ++ x ∷ after)
 
--- numbers from low to high, of which there is at least one
+-- strings of at most 64 units over an alphabet of 1 to 256 units, all different
+pub record AreTexts (least most : ℕ) (alphabet : List ℕ) : Type 0 where
+  pub ordered : least ≤ most
+  pub short : most ≤ 64
+  pub some : 1 ≤ length alphabet
+  pub few : length alphabet ≤ 256
+  pub different : IsDistinct nat_eq alphabet
+
+-- numbers from low to high, of which there is at least one; or such strings
 abbrev pub IsRange : Kind → Type 0
 IsRange (kinds.Int low high) = low ≤ℤ high
-IsRange (kinds.Text least most alphabet) = ⊥
+IsRange (kinds.Text least most alphabet) = AreTexts least most alphabet

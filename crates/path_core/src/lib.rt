@@ -3,13 +3,17 @@
 #![tactic(auto)]
 
 mod bounds;
+mod declaring;
 mod equality;
 mod inputs;
+mod members;
 mod names;
 mod path;
 mod query;
 mod reading;
+mod sizes;
 mod taking;
+mod texts;
 mod threads;
 
 pub use bounds::{Bounds, BoundsRefusal, Declared, Kind};

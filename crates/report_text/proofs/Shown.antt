@@ -1,5 +1,5 @@
 -- Where all blocks are shown, nothing is left out.
-use Rattle.std.proofs.Common.{◌≡◌, ℕ, Bool, true, false, List, [], ◌∷◌, map, refl, ap, ◌∙◌}
+use Rattle.std.proofs.Common.{◌≡◌, Bool, true, false, List, [], ◌∷◌, map, refl, ap, ◌∙◌}
 use Rattle.report_text.specs.declared.report.Line.{Line}
 use Rattle.report_text.specs.declared.report.Line.TheVariants as lines
 use Rattle.report_text.specs.declared.report.Report.{Report}

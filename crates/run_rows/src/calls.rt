@@ -1,5 +1,6 @@
 //! Rows on the top call.
 
+mod examples;
 mod faults;
 mod refusals;
 mod rows;
@@ -29,13 +30,13 @@ fn status<R: Threads + Sync>(
     rt: &R,
     alloc: Global,
     line: &str,
-    script: &str,
+    script: &[u8],
     bounds: &str,
     fails: Vec<u64>,
     out: &mut MemSink,
 ) -> Result<u8, Fail> {
     let mut held = Vec::new(alloc);
-    held.push((bytes(alloc, "s")?, bytes(alloc, script)?))?;
+    held.push((bytes(alloc, "s")?, Vec::from_slice(alloc, script)?))?;
     held.push((bytes(alloc, "b")?, bytes(alloc, bounds)?))?;
     let mut files = MemFiles::new(held, fails);
     Ok(run(rt, alloc, words(alloc, line)?.as_slice(), &mut files, out).number)
@@ -48,12 +49,12 @@ fn is_answered<R: Threads + Sync>(
     rt: &R,
     alloc: Global,
     line: &str,
-    script: &str,
+    script: &[u8],
     bounds: &str,
     wanted: u8,
     text: &[u8],
 ) -> Result<bool, Fail> {
-    let mut out = MemSink::new(alloc, 400, 64, Vec::new(alloc))?;
+    let mut out = MemSink::new(alloc, 30_000, 64, Vec::new(alloc))?;
     let number = status(rt, alloc, line, script, bounds, Vec::new(alloc), &mut out)?;
     Ok(number == wanted && out.written() == text)
 }

@@ -7,5 +7,3 @@ mod bounds;
 mod calls;
 #[cfg(test)]
 mod outside;
-#[cfg(test)]
-mod scripts;

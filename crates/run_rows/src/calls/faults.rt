@@ -18,7 +18,7 @@ fn is_load_told<R: Threads + Sync>(
 ) -> Result<bool, Fail> {
     let mut out = MemSink::new(alloc, 400, 64, Vec::new(alloc))?;
     let fails = vec![in alloc; call]?;
-    let number = status(rt, alloc, "list s b", "", NONE, fails, &mut out)?;
+    let number = status(rt, alloc, "list s b", b"", NONE, fails, &mut out)?;
     Ok(number == 3 && out.written() == text)
 }
 
@@ -29,7 +29,7 @@ fn is_written<R: Threads + Sync>(
     out: &mut MemSink,
     bytes: usize,
 ) -> Result<bool, Fail> {
-    let number = status(rt, alloc, "list s b", "", NONE, Vec::new(alloc), out)?;
+    let number = status(rt, alloc, "list s b", b"", NONE, Vec::new(alloc), out)?;
     let wanted = if bytes < WHOLE.len() { 4 } else { 0 };
     Ok(
         number == wanted

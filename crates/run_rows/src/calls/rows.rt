@@ -1,104 +1,26 @@
 //! Scripts and bounds with their reports.
 
+mod paths;
+mod refused;
+
 use super::{NONE, is_answered};
+use paths::PATHS;
+use refused::REFUSALS;
 use std::alloc::Global;
 use std::test::Fail;
 use std::thread::Threads;
 
-const TO_4: &str =
-    "{\"version\":1,\"inputs\":[{\"name\":\"n\",\"kind\":\"int\",\"low\":0,\"high\":4}]}";
-
-const TO_7: &str =
-    "{\"version\":1,\"inputs\":[{\"name\":\"n\",\"kind\":\"int\",\"low\":0,\"high\":7}]}";
-
-const TO_65535: &str =
-    "{\"version\":1,\"inputs\":[{\"name\":\"n\",\"kind\":\"int\",\"low\":0,\"high\":65535}]}";
-
-const TO_65536: &str =
-    "{\"version\":1,\"inputs\":[{\"name\":\"n\",\"kind\":\"int\",\"low\":0,\"high\":65536}]}";
-
-const TWO: &str =
-    "{\"version\":1,\"inputs\":[{\"name\":\"a\",\"kind\":\"int\",\"low\":-1,\"high\":0},{\"name\":\"b\",\"kind\":\"int\",\"low\":5,\"high\":6}]}";
-
-const USAGE: &str = "usage: expose list SCRIPT BOUNDS\n";
-
 /// The words, the script, the bounds, the status and what is written.
-type Row = (&'static str, &'static str, &'static str, u8, &'static str);
-
-const ROWS: [Row; 14] = [
-    (
-        "list s b",
-        "",
-        NONE,
-        0,
-        "expose 1\npath | | done\ncomplete\n",
-    ),
-    (
-        "list s b",
-        "if (n === 5) {}",
-        TO_7,
-        0,
-        "expose 1\npath n=0 | b0=0 | done\npath n=5 | b0=1 | done\ncomplete\n",
-    ),
-    (
-        "list s b",
-        "if (n > 3) { if (n < 2) {} }",
-        TO_4,
-        0,
-        "expose 1\npath n=0 | b0=0 | done\npath n=4 | b0=1 b13=0 | done\ncomplete\n",
-    ),
-    (
-        "list s b",
-        "if (n === 5) {}",
-        TO_65535,
-        0,
-        "expose 1\npath n=0 | b0=0 | done\npath n=5 | b0=1 | done\ncomplete\n",
-    ),
-    (
-        "list s b",
-        "if (n === 5) {}",
-        TO_65536,
-        6,
-        "bounds refused: too many\n",
-    ),
-    (
-        "list s b",
-        "if (m < 1) {}",
-        TO_7,
-        0,
-        "expose 1\npath n=0 | | left:name@4\ncomplete\n",
-    ),
-    (
-        "list s b",
-        "if (a < 0) if (b >= 6) ; else {} else if (c <= 1) ;",
-        TWO,
-        0,
-        "expose 1\npath a=-1 b=5 | b0=1 b11=0 | done\npath a=-1 b=6 | b0=1 b11=1 | done\npath a=0 b=5 | b0=0 | left:name@42\ncomplete\n",
-    ),
-    (
-        "list s b",
-        "let a;",
-        TO_7,
-        5,
-        "script refused at 0: syntax\n",
-    ),
-    (
-        "list s b",
-        "let a;",
-        "{\"version\":1}",
-        6,
-        "bounds refused: field \"inputs\"\n",
-    ),
-    ("list a", "", NONE, 2, USAGE),
-    ("explore s b", "", NONE, 2, USAGE),
-    ("list s b b", "", NONE, 2, USAGE),
-    ("list x b", "", NONE, 3, "read fault: file 1\n"),
-    ("list s x", "", NONE, 3, "read fault: file 2\n"),
-];
+pub(super) type Row = (&'static str, &'static str, &'static str, u8, &'static str);
 
 /// The first row with another answer.
-fn wrong_row<R: Threads + Sync>(rt: &R, alloc: Global) -> Result<Option<usize>, Fail> {
-    for (row, (line, script, bounds, wanted, text)) in ROWS.iter().enumerate() {
+fn wrong_row<R: Threads + Sync>(
+    rt: &R,
+    alloc: Global,
+    rows: &[Row],
+) -> Result<Option<usize>, Fail> {
+    for (row, (line, script, bounds, wanted, text)) in rows.iter().enumerate() {
+        let script = script.as_bytes();
         if !is_answered(rt, alloc, line, script, bounds, *wanted, text.as_bytes())? {
             return Ok(Some(row));
         }
@@ -106,8 +28,37 @@ fn wrong_row<R: Threads + Sync>(rt: &R, alloc: Global) -> Result<Option<usize>, 
     Ok(None)
 }
 
+/// Whether the run is cut at its 4,097th event.
+fn is_cut<R: Threads + Sync>(rt: &R, alloc: Global) -> Result<bool, Fail> {
+    let mut text = Vec::from_slice(alloc, b"expose 1\npath |")?;
+    for _event in 0..4096u32 {
+        text.extend_from_slice(b" b0=1")?;
+    }
+    text.extend_from_slice(b" | cut:events@0\ncomplete\n")?;
+    let bounds = "{\"version\":1,\"turns\":5000,\"inputs\":[]}";
+    let script = b"while (true) {}";
+    is_answered(rt, alloc, "list s b", script, bounds, 0, text.as_slice())
+}
+
 #[test]
 fn rows(rt: HostRuntime) -> Result<(), Fail> {
-    assert_eq!(rt; wrong_row(&rt, rt.alloc())?, None);
+    let alloc = rt.alloc();
+    let found = [
+        wrong_row(&rt, alloc, &PATHS)?,
+        wrong_row(&rt, alloc, &REFUSALS)?,
+    ];
+    let utf8 = is_answered(
+        &rt,
+        alloc,
+        "list s b",
+        b"a\xff",
+        NONE,
+        5,
+        b"script refused at 1: utf8\n",
+    )?;
+    assert_eq!(rt;
+        (found, utf8, is_cut(&rt, alloc)?),
+        ([None, None], true, true)
+    );
     Ok(())
 }

@@ -1,7 +1,6 @@
-use Rattle.path_core.specs.Inputs.{within}
-use Rattle.explorer.specs.Listing.{line_of}
-use Rattle.explorer.proofs.Places.{Reached}
+use Rattle.std.proofs.Common.{◌≡◌, ◌++◌}
+use Rattle.explorer.specs.Found.{found_lines}
 use Rattle.explorer.proofs.listing.lines_of.Given as goal
 
-abbrev pub invariant-loop-place : goal.invariant-loop-place
-invariant-loop-place l = Reached (line_of l.script l.bounds) (within l.bounds.inputs) l._place l.input.values l.lines
+abbrev pub invariant-loop-key : goal.invariant-loop-key
+invariant-loop-key l = l.lines ++ found_lines l.key-iterator ≡ found_lines l.fn.found.entries

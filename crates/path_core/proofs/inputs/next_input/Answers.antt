@@ -1,21 +1,20 @@
-use Rattle.std.proofs.Common.{◌≡◌, true, false}
-use Rattle.path_core.proofs.Order.{within_length, next_is, last_is}
+use Rattle.std.proofs.Common.{sym, ◌∙◌}
+use Rattle.path_core.proofs.Order.{within_length, is_next, is_last, moved_within}
 use Rattle.path_core.proofs.inputs.next_input.Goals as goal
 
-pub step-requires : goal.step-requires
-step-requires c =
+pub next_values-requires : goal.next_values-requires
+next_values-requires c =
     let w = c.requires.within in
-    rw c.as_slice.ensures (record {
-      ranges = c.requires.ranges;
-      each = within_length c.args.bounds.now.inputs w.0 c.args.input.now.values w.1 w.2;
-    })
+    rw (c.as_slice.ensures, c.as_slice-2.ensures) (within_length c.args.bounds.now.inputs w.0 c.args.input.now.values w.1 w.2)
 
-pub returns-clause-more : goal.returns-clause-more
-returns-clause-more c = λ ok.
-    let stepped : c.step.result ≡ true = cc in
-    next_is c.args.bounds.now.inputs c.as_slice.result.now c.args.input.now.values c.step.new.values c.step.result c.as_slice.ensures c.requires.ranges c.step.ensures.more c.step.ensures.values stepped
+pub returns-in-Some-clause-more : goal.returns-in-Some-clause-more
+returns-in-Some-clause-more c = λ ok.
+    is_next c.args.bounds.now.inputs c.args.input.now.values c.in-Some.values c.requires.ranges (sym (rw (c.as_slice.ensures, c.as_slice-2.ensures) at (sym c.in-Some.is ∙ c.in_ok-next.ensures)))
 
-pub returns-clause-last : goal.returns-clause-last
-returns-clause-last c = λ ok.
-    let stayed : c.step.result ≡ false = cc in
-    last_is c.args.bounds.now.inputs c.as_slice.result.now c.args.input.now.values c.step.result c.as_slice.ensures c.requires.ranges c.step.ensures.more stayed
+pub returns-in-Some-clause-within : goal.returns-in-Some-clause-within
+returns-in-Some-clause-within c =
+    moved_within c.args.bounds.now.inputs c.args.input.now.values c.in-Some.values c.requires.within (is_next c.args.bounds.now.inputs c.args.input.now.values c.in-Some.values c.requires.ranges (sym (rw (c.as_slice.ensures, c.as_slice-2.ensures) at (sym c.in-Some.is ∙ c.in_ok-next.ensures))))
+
+pub returns-in-None-clause-last : goal.returns-in-None-clause-last
+returns-in-None-clause-last c = λ ok.
+    is_last c.args.bounds.now.inputs c.args.input.now.values c.requires.ranges (sym (rw (c.as_slice.ensures, c.as_slice-2.ensures) at (sym c.in-None.is ∙ c.in_ok-next.ensures)))

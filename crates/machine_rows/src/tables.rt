@@ -1,0 +1,10 @@
+pub(crate) mod calls;
+pub(crate) mod completions;
+pub(crate) mod literals;
+pub(crate) mod objects;
+pub(crate) mod operators;
+pub(crate) mod scopes;
+pub(crate) mod statements;
+pub(crate) mod turns;
+pub(crate) mod waiting;
+pub(crate) mod worked;

@@ -1,0 +1,7 @@
+//! Tables of reports, whole and damaged.
+#![tactic(auto)]
+
+#[cfg(test)]
+mod damages;
+#[cfg(test)]
+mod reports;

@@ -1,0 +1,71 @@
+//! The scripts, bounds and reports of the examples.
+
+use super::is_answered;
+use std::alloc::Global;
+use std::test::Fail;
+use std::thread::Threads;
+
+/// A script, its bounds and its report.
+type Example = (&'static str, &'static str, &'static str);
+
+const EXAMPLES: [Example; 7] = [
+    // check_digit
+    (
+        "// Three digits and a check digit: the weighted sum of all four is divisible by 11, and a check of 10 is written X.\nconst sum = 4 * a + 3 * b + 2 * c;\nconst check = (11 - sum % 11) % 11;\nconst written = check === 10 ? \"X\" : \"\" + check;\nif (written !== last) {\n    throw \"wrong digit: \" + last;\n}\nif (last === \"X\") {\n}\n",
+        "{\n  \"version\": 1,\n  \"inputs\": [\n    { \"name\": \"a\", \"kind\": \"int\", \"low\": 0, \"high\": 9 },\n    { \"name\": \"b\", \"kind\": \"int\", \"low\": 0, \"high\": 9 },\n    { \"name\": \"c\", \"kind\": \"int\", \"low\": 0, \"high\": 9 },\n    { \"name\": \"last\", \"kind\": \"text\", \"least\": 1, \"most\": 1, \"alphabet\": \"0123456789X\" }\n  ]\n}\n",
+        "expose 1\npath a=0 b=0 c=0 last=\"0\" | b216=0 b236=0 b296=0 | done\npath a=0 b=0 c=0 last=\"1\" | b216=0 b236=1 | threw:value@264\npath a=0 b=0 c=6 last=\"0\" | b216=1 b236=1 | threw:value@264\npath a=0 b=0 c=6 last=\"X\" | b216=1 b236=0 b296=1 | done\ncomplete\n",
+    ),
+    // counter
+    (
+        "// Closures: each counter has a state of its own, and a word says which one is told to go on.\nfunction counter(limit) {\n    let count = 0;\n    return () => {\n        if (count === limit) {\n            throw \"full\";\n        }\n        count++;\n        return count;\n    };\n}\n\nconst small = counter(1);\nconst large = counter(2);\nlet step = 0;\nwhile (step < times) {\n    step++;\n    if (word === \"s\") {\n        small();\n    } else if (word === \"l\") {\n        large();\n    } else {\n        break;\n    }\n}\n",
+        "{\n  \"version\": 1,\n  \"inputs\": [\n    { \"name\": \"word\", \"kind\": \"text\", \"least\": 0, \"most\": 1, \"alphabet\": \"slx\" },\n    { \"name\": \"times\", \"kind\": \"int\", \"low\": 0, \"high\": 4 }\n  ]\n}\n",
+        "expose 1\npath word=\"\" times=0 | b340=0 | done\npath word=\"\" times=1 | b340=1 b379=0 b427=0 | done\npath word=\"s\" times=1 | b340=1 b379=1 b166=0 b340=0 | done\npath word=\"s\" times=2 | b340=1 b379=1 b166=0 b340=1 b379=1 b166=1 | threw:value@201\npath word=\"l\" times=1 | b340=1 b379=0 b427=1 b166=0 b340=0 | done\npath word=\"l\" times=2 | b340=1 b379=0 b427=1 b166=0 b340=1 b379=0 b427=1 b166=0 b340=0 | done\npath word=\"l\" times=3 | b340=1 b379=0 b427=1 b166=0 b340=1 b379=0 b427=1 b166=0 b340=1 b379=0 b427=1 b166=1 | threw:value@201\ncomplete\n",
+    ),
+    // date
+    (
+        "// Is there such a day? 1900 was no leap year, 2000 was one.\nfunction isLeap(year) {\n    return year % 4 === 0 && (year % 100 !== 0 || year % 400 === 0);\n}\n\nfunction lastDay(year, month) {\n    if (month === 2) {\n        return isLeap(year) ? 29 : 28;\n    }\n    return month === 4 || month === 6 || month === 9 || month === 11 ? 30 : 31;\n}\n\nif (month < 1 || month > 12) {\n    throw \"month\";\n}\nif (day < 1 || day > lastDay(year, month)) {\n    throw \"day\";\n}\n",
+        "{\n  \"version\": 1,\n  \"inputs\": [\n    { \"name\": \"year\", \"kind\": \"int\", \"low\": 1896, \"high\": 2004 },\n    { \"name\": \"month\", \"kind\": \"int\", \"low\": 0, \"high\": 13 },\n    { \"name\": \"day\", \"kind\": \"int\", \"low\": 0, \"high\": 32 }\n  ]\n}\n",
+        "expose 1\npath year=1896 month=0 day=0 | b354=1 b340=1 | threw:value@375\npath year=1896 month=1 day=0 | b354=0 b340=0 b404=1 b392=1 | threw:value@441\npath year=1896 month=1 day=1 | b354=0 b340=0 b404=0 b193=0 b280=0 b295=0 b310=0 b326=0 b392=0 | done\npath year=1896 month=1 day=32 | b354=0 b340=0 b404=0 b193=0 b280=0 b295=0 b310=0 b326=0 b392=1 | threw:value@441\npath year=1896 month=2 day=1 | b354=0 b340=0 b404=0 b193=1 b111=1 b132=1 b240=1 b392=0 | done\npath year=1896 month=2 day=30 | b354=0 b340=0 b404=0 b193=1 b111=1 b132=1 b240=1 b392=1 | threw:value@441\npath year=1896 month=4 day=1 | b354=0 b340=0 b404=0 b193=0 b280=1 b295=1 b310=1 b326=1 b392=0 | done\npath year=1896 month=4 day=31 | b354=0 b340=0 b404=0 b193=0 b280=1 b295=1 b310=1 b326=1 b392=1 | threw:value@441\npath year=1896 month=6 day=1 | b354=0 b340=0 b404=0 b193=0 b280=0 b295=1 b310=1 b326=1 b392=0 | done\npath year=1896 month=6 day=31 | b354=0 b340=0 b404=0 b193=0 b280=0 b295=1 b310=1 b326=1 b392=1 | threw:value@441\npath year=1896 month=9 day=1 | b354=0 b340=0 b404=0 b193=0 b280=0 b295=0 b310=1 b326=1 b392=0 | done\npath year=1896 month=9 day=31 | b354=0 b340=0 b404=0 b193=0 b280=0 b295=0 b310=1 b326=1 b392=1 | threw:value@441\npath year=1896 month=11 day=1 | b354=0 b340=0 b404=0 b193=0 b280=0 b295=0 b310=0 b326=1 b392=0 | done\npath year=1896 month=11 day=31 | b354=0 b340=0 b404=0 b193=0 b280=0 b295=0 b310=0 b326=1 b392=1 | threw:value@441\npath year=1896 month=13 day=0 | b354=0 b340=1 | threw:value@375\npath year=1897 month=2 day=1 | b354=0 b340=0 b404=0 b193=1 b111=0 b240=0 b392=0 | done\npath year=1897 month=2 day=29 | b354=0 b340=0 b404=0 b193=1 b111=0 b240=0 b392=1 | threw:value@441\npath year=1900 month=2 day=1 | b354=0 b340=0 b404=0 b193=1 b111=1 b132=0 b240=0 b392=0 | done\npath year=1900 month=2 day=29 | b354=0 b340=0 b404=0 b193=1 b111=1 b132=0 b240=0 b392=1 | threw:value@441\npath year=2000 month=2 day=1 | b354=0 b340=0 b404=0 b193=1 b111=1 b132=0 b240=1 b392=0 | done\npath year=2000 month=2 day=30 | b354=0 b340=0 b404=0 b193=1 b111=1 b132=0 b240=1 b392=1 | threw:value@441\ncomplete\n",
+    ),
+    // lock
+    (
+        "// A door lock: its code is 1, 2, 3, and the second wrong key blocks it. Each input is a key that is pressed.\nconst lock = { right: 0, wrong: 0, isOpen: false };\n\nfunction isRight(key) {\n    return key === lock.right + 1;\n}\n\nfunction press(key) {\n    if (lock.wrong === 2) {\n        throw \"blocked\";\n    }\n    if (isRight(key)) {\n        lock.right++;\n    } else {\n        lock.right = 0;\n        lock.wrong++;\n    }\n    if (lock.right === 3) {\n        lock.isOpen = true;\n    }\n}\n\nfor (const key of [first, second, third, fourth, fifth]) {\n    if (!lock.isOpen) {\n        press(key);\n    }\n}\n",
+        "{\n  \"version\": 1,\n  \"inputs\": [\n    { \"name\": \"first\", \"kind\": \"int\", \"low\": 1, \"high\": 4 },\n    { \"name\": \"second\", \"kind\": \"int\", \"low\": 1, \"high\": 4 },\n    { \"name\": \"third\", \"kind\": \"int\", \"low\": 1, \"high\": 4 },\n    { \"name\": \"fourth\", \"kind\": \"int\", \"low\": 1, \"high\": 4 },\n    { \"name\": \"fifth\", \"kind\": \"int\", \"low\": 1, \"high\": 4 }\n  ]\n}\n",
+        "expose 1\npath first=1 second=1 third=1 fourth=1 fifth=1 | b545=1 b251=0 b310=1 b421=0 b545=1 b251=0 b310=0 b421=0 b545=1 b251=0 b310=1 b421=0 b545=1 b251=0 b310=0 b421=0 b545=1 b251=1 | threw:value@283\npath first=1 second=1 third=1 fourth=2 fifth=1 | b545=1 b251=0 b310=1 b421=0 b545=1 b251=0 b310=0 b421=0 b545=1 b251=0 b310=1 b421=0 b545=1 b251=0 b310=1 b421=0 b545=1 b251=0 b310=0 b421=0 | done\npath first=1 second=1 third=1 fourth=2 fifth=3 | b545=1 b251=0 b310=1 b421=0 b545=1 b251=0 b310=0 b421=0 b545=1 b251=0 b310=1 b421=0 b545=1 b251=0 b310=1 b421=0 b545=1 b251=0 b310=1 b421=1 | done\npath first=1 second=1 third=2 fourth=1 fifth=1 | b545=1 b251=0 b310=1 b421=0 b545=1 b251=0 b310=0 b421=0 b545=1 b251=0 b310=0 b421=0 b545=1 b251=1 | threw:value@283\npath first=1 second=2 third=1 fourth=1 fifth=1 | b545=1 b251=0 b310=1 b421=0 b545=1 b251=0 b310=1 b421=0 b545=1 b251=0 b310=0 b421=0 b545=1 b251=0 b310=1 b421=0 b545=1 b251=0 b310=0 b421=0 | done\npath first=1 second=2 third=1 fourth=1 fifth=2 | b545=1 b251=0 b310=1 b421=0 b545=1 b251=0 b310=1 b421=0 b545=1 b251=0 b310=0 b421=0 b545=1 b251=0 b310=1 b421=0 b545=1 b251=0 b310=1 b421=0 | done\npath first=1 second=2 third=1 fourth=2 fifth=1 | b545=1 b251=0 b310=1 b421=0 b545=1 b251=0 b310=1 b421=0 b545=1 b251=0 b310=0 b421=0 b545=1 b251=0 b310=0 b421=0 b545=1 b251=1 | threw:value@283\npath first=1 second=2 third=3 fourth=1 fifth=1 | b545=1 b251=0 b310=1 b421=0 b545=1 b251=0 b310=1 b421=0 b545=1 b251=0 b310=1 b421=1 b545=0 b545=0 | done\npath first=2 second=1 third=1 fourth=1 fifth=1 | b545=1 b251=0 b310=0 b421=0 b545=1 b251=0 b310=1 b421=0 b545=1 b251=0 b310=0 b421=0 b545=1 b251=1 | threw:value@283\npath first=2 second=1 third=2 fourth=1 fifth=1 | b545=1 b251=0 b310=0 b421=0 b545=1 b251=0 b310=1 b421=0 b545=1 b251=0 b310=1 b421=0 b545=1 b251=0 b310=0 b421=0 b545=1 b251=1 | threw:value@283\npath first=2 second=1 third=2 fourth=3 fifth=1 | b545=1 b251=0 b310=0 b421=0 b545=1 b251=0 b310=1 b421=0 b545=1 b251=0 b310=1 b421=0 b545=1 b251=0 b310=1 b421=1 b545=0 | done\npath first=2 second=2 third=1 fourth=1 fifth=1 | b545=1 b251=0 b310=0 b421=0 b545=1 b251=0 b310=0 b421=0 b545=1 b251=1 | threw:value@283\ncomplete\n",
+    ),
+    // price
+    (
+        "// Ten tickets or more cost a tenth less, and twenty or more a fifth less: so says the table. No path takes the second\n// branch, since the first one is taken by each group of twenty.\nfunction each(group) {\n    if (group >= 10) {\n        return 9;\n    } else if (group >= 20) {\n        return 8;\n    }\n    return 10;\n}\n\nlet price = group * each(group);\nif (age < 6) {\n    price = 0;\n} else if (age < 18 || age >= 65) {\n    price = price - 2 * group;\n}\n",
+        "{\n  \"version\": 1,\n  \"inputs\": [\n    { \"name\": \"group\", \"kind\": \"int\", \"low\": 1, \"high\": 40 },\n    { \"name\": \"age\", \"kind\": \"int\", \"low\": 0, \"high\": 99 }\n  ]\n}\n",
+        "expose 1\npath group=1 age=0 | b211=0 b259=0 b353=1 | done\npath group=1 age=6 | b211=0 b259=0 b353=0 b403=1 b390=1 | done\npath group=1 age=18 | b211=0 b259=0 b353=0 b403=0 b390=0 | done\npath group=1 age=65 | b211=0 b259=0 b353=0 b403=0 b390=1 | done\npath group=10 age=0 | b211=1 b353=1 | done\npath group=10 age=6 | b211=1 b353=0 b403=1 b390=1 | done\npath group=10 age=18 | b211=1 b353=0 b403=0 b390=0 | done\npath group=10 age=65 | b211=1 b353=0 b403=0 b390=1 | done\ncomplete\n",
+    ),
+    // tree
+    (
+        "// The value of (a + 1) op b, a tree of objects. What can't be done is thrown, and caught.\nconst leaf = (number) => ({ kind: \"number\", number });\nconst node = (kind, left, right) => ({ kind, left, right });\n\nfunction evaluate(tree) {\n    if (tree.kind === \"number\") {\n        return tree.number;\n    }\n    const left = evaluate(tree.left);\n    const right = evaluate(tree.right);\n    if (tree.kind === \"+\") {\n        return left + right;\n    }\n    if (tree.kind === \"*\") {\n        return left * right;\n    }\n    if (tree.kind === \"/\") {\n        if (right === 0) {\n            throw \"by zero\";\n        }\n        if (left % right !== 0) {\n            throw \"no whole number\";\n        }\n        return left / right;\n    }\n    throw \"no operator: \" + tree.kind;\n}\n\nlet answer = \"none\";\ntry {\n    answer = evaluate(node(op, node(\"+\", leaf(a), leaf(1)), leaf(b)));\n} catch (why) {\n    answer = why;\n}\nif (typeof answer === \"number\" && answer > 20) {\n    throw answer;\n}\n",
+        "{\n  \"version\": 1,\n  \"inputs\": [\n    { \"name\": \"op\", \"kind\": \"text\", \"least\": 1, \"most\": 1, \"alphabet\": \"+-*/\" },\n    { \"name\": \"a\", \"kind\": \"int\", \"low\": -9, \"high\": 9 },\n    { \"name\": \"b\", \"kind\": \"int\", \"low\": -9, \"high\": 9 }\n  ]\n}\n",
+        "expose 1\npath op=\"+\" a=-9 b=-9 | b238=0 b238=0 b238=1 b238=1 b384=1 b238=1 b384=1 b926=1 b895=0 | done\npath op=\"-\" a=-9 b=-9 | b238=0 b238=0 b238=1 b238=1 b384=1 b238=1 b384=0 b448=0 b512=0 b926=0 b895=0 | done\npath op=\"*\" a=-9 b=-9 | b238=0 b238=0 b238=1 b238=1 b384=1 b238=1 b384=0 b448=1 b926=1 b895=1 | threw:value@948\npath op=\"*\" a=-9 b=-2 | b238=0 b238=0 b238=1 b238=1 b384=1 b238=1 b384=0 b448=1 b926=1 b895=0 | done\npath op=\"/\" a=-9 b=-9 | b238=0 b238=0 b238=1 b238=1 b384=1 b238=1 b384=0 b448=0 b512=1 b545=0 b611=1 b926=0 b895=0 | done\npath op=\"/\" a=-9 b=-8 | b238=0 b238=0 b238=1 b238=1 b384=1 b238=1 b384=0 b448=0 b512=1 b545=0 b611=0 b926=1 b895=0 | done\npath op=\"/\" a=-9 b=0 | b238=0 b238=0 b238=1 b238=1 b384=1 b238=1 b384=0 b448=0 b512=1 b545=1 b926=0 b895=0 | done\ncomplete\n",
+    ),
+    // version
+    (
+        "// Is the version at least 1.2.3? Its three numbers decide in their order.\nconst least = { major: 1, minor: 2, patch: 3 };\n\nfunction order(a, b) {\n    return a < b ? -1 : a > b ? 1 : 0;\n}\n\nfunction compare(a, b) {\n    return order(a.major, b.major) || order(a.minor, b.minor) || order(a.patch, b.patch);\n}\n\nif (compare({ major, minor, patch }, least) < 0) {\n    throw \"too old\";\n}\n",
+        "{\n  \"version\": 1,\n  \"inputs\": [\n    { \"name\": \"major\", \"kind\": \"int\", \"low\": 0, \"high\": 3 },\n    { \"name\": \"minor\", \"kind\": \"int\", \"low\": 0, \"high\": 12 },\n    { \"name\": \"patch\", \"kind\": \"int\", \"low\": 0, \"high\": 12 }\n  ]\n}\n",
+        "expose 1\npath major=0 minor=0 patch=0 | b164=1 b249=1 b276=1 b307=1 | threw:value@362\npath major=1 minor=0 patch=0 | b164=0 b177=0 b249=0 b164=1 b276=1 b307=1 | threw:value@362\npath major=1 minor=2 patch=0 | b164=0 b177=0 b249=0 b164=0 b177=0 b276=0 b164=1 b307=1 | threw:value@362\npath major=1 minor=2 patch=3 | b164=0 b177=0 b249=0 b164=0 b177=0 b276=0 b164=0 b177=0 b307=0 | done\npath major=1 minor=2 patch=4 | b164=0 b177=0 b249=0 b164=0 b177=0 b276=0 b164=0 b177=1 b307=0 | done\npath major=1 minor=3 patch=0 | b164=0 b177=0 b249=0 b164=0 b177=1 b276=1 b307=0 | done\npath major=2 minor=0 patch=0 | b164=0 b177=1 b249=1 b276=1 b307=0 | done\ncomplete\n",
+    ),
+];
+
+/// The first example with another report.
+fn wrong_example<R: Threads + Sync>(rt: &R, alloc: Global) -> Result<Option<usize>, Fail> {
+    for (row, (script, bounds, report)) in EXAMPLES.iter().enumerate() {
+        let script = script.as_bytes();
+        if !is_answered(rt, alloc, "list s b", script, bounds, 0, report.as_bytes())? {
+            return Ok(Some(row));
+        }
+    }
+    Ok(None)
+}
+
+#[test]
+fn examples(rt: HostRuntime) -> Result<(), Fail> {
+    assert_eq!(rt; wrong_example(&rt, rt.alloc())?, None);
+    Ok(())
+}

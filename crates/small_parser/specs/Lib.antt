@@ -1,6 +1,0 @@
-pub mod Tokens
-pub mod Grammar
-pub mod Lexing
-pub mod Reading
-pub mod Answers
-pub mod Refusals
