@@ -1,23 +1,20 @@
 //! Scripts that are made of pieces, since they are long, or their paths are.
 
-mod long;
+mod chains;
+mod counts;
 mod nodes;
+mod sizes;
 
 use crate::running::is_told;
 use js_units::NoMemory;
 use std::alloc::Global;
 use std::test::Fail;
 
-/// A text and how often it stands. A `#` in it is the number of those before.
-type Piece = (&'static str, u32);
-
-/// The turns, the pieces of the script, and those of its line.
-pub(crate) type LongRow = (u64, &'static [Piece], &'static [Piece]);
-
-fn push_piece(
+/// Adds the text, with a number in the place of each `#`.
+fn push_numbered(
     alloc: Global,
     out: &mut Vec<u8>,
-    text: &'static str,
+    text: &str,
     number: u32,
 ) -> Result<(), NoMemory> {
     let mut parts = text.split('#');
@@ -29,46 +26,63 @@ fn push_piece(
     Ok(())
 }
 
-fn push_pieces(
-    alloc: Global,
-    out: &mut Vec<u8>,
-    text: &'static str,
-    count: u32,
-) -> Result<(), NoMemory> {
-    for number in 0..count {
-        push_piece(alloc, out, text, number)?;
+/// Adds what a piece, as `20: x#;`, stands for: its text so many times, with the number of those before it for `#`.
+fn push_repeated(alloc: Global, out: &mut Vec<u8>, piece: &str) -> Result<(), NoMemory> {
+    let (count, text) = piece.split_once(':').unwrap_or(("", ""));
+    for number in 0..count.parse::<u32>().unwrap_or(0) {
+        push_numbered(alloc, out, text, number)?;
     }
     Ok(())
 }
 
-fn joined(alloc: Global, pieces: &[Piece]) -> Result<Vec<u8>, NoMemory> {
+/// What a text with pieces between two "`" stands for.
+fn unfolded(alloc: Global, text: &str) -> Result<Vec<u8>, NoMemory> {
     let mut out = Vec::new(alloc);
-    for (text, count) in pieces {
-        push_pieces(alloc, &mut out, text, *count)?;
+    for (place, part) in text.split('`').enumerate() {
+        if place & 1 == 0 {
+            out.extend_from_slice(part.as_bytes())?;
+        } else {
+            push_repeated(alloc, &mut out, part)?;
+        }
     }
     Ok(out)
 }
 
+/// Whether a script does what its row tells: the script, what stands behind `path` in its line of a report, both with
+/// pieces, and the turns.
+fn is_true(alloc: Global, row: &str) -> Result<bool, NoMemory> {
+    let mut parts = row.split(" → ");
+    let script = unfolded(alloc, parts.next().unwrap_or(""))?;
+    let told = unfolded(alloc, parts.next().unwrap_or(""))?;
+    let turns = parts.next().unwrap_or("").parse::<u64>().unwrap_or(0);
+    is_told(alloc, "", turns, script.as_slice(), told.as_slice())
+}
+
 /// The first row whose script does something else.
-fn wrong_row(alloc: Global, rows: &[LongRow]) -> Result<Option<usize>, NoMemory> {
-    for (number, (turns, script, told)) in rows.iter().enumerate() {
-        let script = joined(alloc, script)?;
-        if !is_told(
-            alloc,
-            "",
-            *turns,
-            script.as_slice(),
-            joined(alloc, told)?.as_slice(),
-        )? {
-            return Ok(Some(number));
+fn wrong_row(alloc: Global, rows: &[&'static str]) -> Result<Option<&'static str>, NoMemory> {
+    for row in rows {
+        if !is_true(alloc, row)? {
+            return Ok(Some(row));
         }
     }
     Ok(None)
 }
 
 #[test]
-fn limits(rt: HostRuntime) -> Result<(), Fail> {
-    assert_eq!(rt; wrong_row(rt.alloc(), &long::ROWS)?, None);
+fn event_limits(rt: HostRuntime) -> Result<(), Fail> {
+    assert_eq!(rt; wrong_row(rt.alloc(), &counts::ROWS)?, None);
+    Ok(())
+}
+
+#[test]
+fn long_and_deep(rt: HostRuntime) -> Result<(), Fail> {
+    assert_eq!(rt; wrong_row(rt.alloc(), &chains::ROWS)?, None);
+    Ok(())
+}
+
+#[test]
+fn size_limits(rt: HostRuntime) -> Result<(), Fail> {
+    assert_eq!(rt; wrong_row(rt.alloc(), &sizes::ROWS)?, None);
     Ok(())
 }
 

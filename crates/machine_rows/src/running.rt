@@ -11,10 +11,6 @@ use report_text::{Line, Report, write_report};
 use sqlite_items::Items;
 use std::alloc::Global;
 
-/// At most two inputs with their values, parted by a space, a text between `'`; the script; and what stands behind `path`
-/// in its line of a report, or `refused`.
-pub(crate) type Row = (&'static str, &'static str, &'static str);
-
 fn value_of(alloc: Global, text: &str) -> Result<InputValue, NoMemory>
     ensures { IfOk result (λ value. IsInputValue value) }
 {
@@ -103,7 +99,9 @@ fn wanted(alloc: Global, told: &[u8]) -> Result<Vec<u8>, NoMemory> {
     Ok(text)
 }
 
-/// Whether the script does what is told, on these inputs and with so many turns.
+/// Whether the script does what is told, on these inputs and with so many turns. At most two inputs stand with their
+/// values, parted by a space, a text between `'`. What is told stands behind `path` in the script's line of a report, or
+/// is `refused`.
 pub(crate) fn is_told(
     alloc: Global,
     inputs: &str,

@@ -124,7 +124,8 @@ front_of zero list front e = (list, ap (λ (q : List ℕ). q ++ list) (sym (some
 front_of (suc n) [] front e = absurd cc
 front_of (suc n) (b ∷ bs) front e = front_by b (first_lines (cond (b == 10) n (suc n)) bs) bs front (λ more h. front_of (cond (b == 10) n (suc n)) bs more h) e
 
-no_more : {X : Type 0} (text : X → List ℕ) (is_spelt : X → Type 0) (list rest : List ℕ) (r : Refused text is_spelt list rest) → HasLines text is_spelt (r.lines + 1) list → ⊥
+-- with the line behind those before it no text begins
+pub no_more : {X : Type 0} (text : X → List ℕ) (is_spelt : X → Type 0) (list rest : List ℕ) (r : Refused text is_spelt list rest) → HasLines text is_spelt (r.lines + 1) list → ⊥
 no_more text is_spelt list rest r (front, x, a, s, b) =
     by (first_lines 1 rest) refl
   where

@@ -1,6 +1,6 @@
 //! What reading says of a report, and whether it is written again as it was.
 
-use crate::damages::{BASE, DAMAGES};
+use crate::damages::{BASE, DAMAGES, VARIANTS};
 use js_units::NoMemory;
 use report_text::{ReportRefusal, read_report, write_report};
 use std::alloc::Global;
@@ -38,11 +38,32 @@ fn with_line(alloc: Global, number: usize, text: &str) -> Result<Vec<u8>, NoMemo
     Ok(bytes)
 }
 
-/// The first of the damages that is told otherwise.
-fn wrong_damage(alloc: Global) -> Result<Option<usize>, NoMemory> {
-    for (row, (number, text, line)) in DAMAGES.iter().enumerate() {
-        let bytes = with_line(alloc, *number, text)?;
-        if refused_line(alloc, bytes.as_slice())? != *line {
+fn number(text: &str) -> usize {
+    text.parse::<usize>().unwrap_or(0)
+}
+
+/// The line that is refused where a row is followed, and the one that it tells: where it tells none, its own or 0.
+fn refused_and_told(alloc: Global, row: &str, refused: bool) -> Result<(u64, u64), NoMemory> {
+    let mut parts = row.split(" → ");
+    let place = number(parts.next().unwrap_or(""));
+    let bytes = with_line(alloc, place, parts.next().unwrap_or(""))?;
+    let told = match parts.next() {
+        Some(line) => number(line),
+        None if refused => place,
+        None => 0,
+    };
+    Ok((refused_line(alloc, bytes.as_slice())?, told as u64))
+}
+
+/// The first row that another line than its own is refused for, or one where none should be.
+fn wrong_row(
+    alloc: Global,
+    rows: &[&'static str],
+    refused: bool,
+) -> Result<Option<&'static str>, NoMemory> {
+    for row in rows {
+        let (found, told) = refused_and_told(alloc, row, refused)?;
+        if found != told {
             return Ok(Some(row));
         }
     }
@@ -91,9 +112,24 @@ fn reports(rt: HostRuntime) -> Result<(), Fail> {
         refused_line(alloc, PROOF.get(..PROOF.len() - 9).unwrap_or(PROOF))?,
         refused_line(alloc, b"")?,
     ];
-    assert_eq!(rt;
-        (lines, wrong_damage(alloc)?, wrong_front(alloc)?),
-        ([0, 0, 12, 1], None, None)
-    );
+    assert_eq!(rt; lines, [0, 0, 12, 1]);
+    Ok(())
+}
+
+#[test]
+fn variants(rt: HostRuntime) -> Result<(), Fail> {
+    assert_eq!(rt; wrong_row(rt.alloc(), &VARIANTS, false)?, None);
+    Ok(())
+}
+
+#[test]
+fn damages(rt: HostRuntime) -> Result<(), Fail> {
+    assert_eq!(rt; wrong_row(rt.alloc(), &DAMAGES, true)?, None);
+    Ok(())
+}
+
+#[test]
+fn fronts(rt: HostRuntime) -> Result<(), Fail> {
+    assert_eq!(rt; wrong_front(rt.alloc())?, None);
     Ok(())
 }

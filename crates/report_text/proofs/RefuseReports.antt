@@ -1,16 +1,15 @@
 -- Where a report is refused, and what reading answers.
-use Rattle.std.proofs.Common.{◌≡◌, ℕ, zero, suc, ◌+◌, ◌-◌, ◌≤◌, true, cond, List, [], ◌∷◌, ◌++◌, length, take, Option, Some, None, refl, sym, ap, subst, ◌∙◌, arith, append_assoc, append-nil, length-append}
+use Rattle.std.proofs.Common.{◌≡◌, ℕ, ◌+◌, ◌-◌, ◌≤◌, true, List, [], ◌∷◌, ◌++◌, length, take, Option, Some, None, refl, sym, ap, subst, ◌∙◌, arith, append_assoc, append-nil, length-append}
 use Rattle.std.specs.Prelude.{◌==◌, codes, Result, Ok, Err}
 use Rattle.std.specs.List.{flat_map}
-use Rattle.std.specs.Option.{option_map}
 use Rattle.std.proofs.lemmas.List.{take_at}
 use Rattle.proof_text.specs.Answers.{line_ends}
 use Rattle.proof_text.specs.Lines.{after}
 use Rattle.proof_text.specs.Refusals.{first_lines, HasLines}
 use Rattle.proof_text.specs.Counted.{◌>>=◌}
 use Rattle.proof_text.proofs.Parts.{after_sound, after_complete}
-use Rattle.proof_text.proofs.Whole.{IsLine, Whole, line_same, skip, first_of, some_same, whole_ends}
-use Rattle.proof_text.proofs.Refusing.{Refused, none_some, ok_same}
+use Rattle.proof_text.proofs.Whole.{IsLine, Whole, line_same, skip, whole_ends}
+use Rattle.proof_text.proofs.Refusing.{Refused, no_more, none_some, ok_same}
 use Rattle.report_text.specs.Lines.{line_text, last_text, report_text}
 use Rattle.report_text.specs.Reports.{IsReport}
 use Rattle.report_text.specs.Entries.{lines_at, begun, alone, report_at}
@@ -150,33 +149,6 @@ report_refused list rest h = start_by list rest (after start list) refl h
 
 -- ---- the line
 
--- the first lines stand in front
-front_by : (b : ℕ) (o : Option (List ℕ)) (bs front : List ℕ) → ((more : List ℕ) → o ≡ Some more → (tail : List ℕ) × (more ++ tail ≡ bs)) → option_map (λ (r : List ℕ). b ∷ r) o ≡ Some front → (tail : List ℕ) × (front ++ tail ≡ b ∷ bs)
-front_by b None bs front go e = absurd cc
-front_by b (Some more) bs front go e =
-    let k = go more refl in
-    (k.0, ap (λ (q : List ℕ). q ++ k.0) (sym (some_same (b ∷ more) front e)) ∙ ap (λ (q : List ℕ). b ∷ q) k.1)
-
-front_of : (n : ℕ) (list front : List ℕ) → first_lines n list ≡ Some front → (tail : List ℕ) × (front ++ tail ≡ list)
-front_of zero list front e = (list, ap (λ (q : List ℕ). q ++ list) (sym (some_same [] front e)))
-front_of (suc n) [] front e = absurd cc
-front_of (suc n) (b ∷ bs) front e = front_by b (first_lines (cond (b == 10) n (suc n)) bs) bs front (λ more h. front_of (cond (b == 10) n (suc n)) bs more h) e
-
-no_more : (list rest : List ℕ) (r : Refused report_text IsReport list rest) → HasLines report_text IsReport (r.lines + 1) list → ⊥
-no_more list rest r (front, x, a, s, b) =
-    by (first_lines 1 rest) refl
-  where
-    of_list : first_lines (r.lines + 1) list ≡ option_map (λ (q : List ℕ). r.before ++ q) (first_lines 1 rest)
-    of_list = ap (first_lines (r.lines + 1)) (sym r.list_is) ∙ skip r.lines 1 r.before rest r.whole
-
-    by : (o : Option (List ℕ)) → first_lines 1 rest ≡ o → ⊥
-    by None e = none_some (first_lines (r.lines + 1) list) front (of_list ∙ ap (λ (q : Option (List ℕ)). option_map (λ (q : List ℕ). r.before ++ q) q) e) a
-    by (Some line) e =
-        let l = first_of rest line e in
-        let is_front : r.before ++ line ≡ front = some_same (r.before ++ line) front (ap (λ (q : Option (List ℕ)). option_map (λ (q : List ℕ). r.before ++ q) q) (sym e) ∙ sym of_list ∙ a) in
-        let cut = front_of (r.lines + 1) (report_text x) front b in
-        r.none x line cut.0 l.behind l.is_line l.list_is s (sym cut.1 ∙ ap (λ (q : List ℕ). q ++ cut.0) (sym is_front) ∙ append_assoc r.before line cut.0)
-
 first_whole : (n : ℕ) (a b c : List ℕ) → a ++ b ≡ c → Whole n a → first_lines n c ≡ Some a
 first_whole n a b c h k = ap (first_lines n) (sym h) ∙ ap (λ (q : ℕ). first_lines q (a ++ b)) (add_nothing n) ∙ skip n 0 a b k ∙ ap (λ (q : List ℕ). Some q) (append-nil a)
   where
@@ -200,7 +172,7 @@ answers_line list rest e line h =
       before = r.lines;
       line_is = omega (arith, is);
       has = (r.before, r.like, first_whole r.lines r.before rest list r.list_is r.whole, r.like_spelt, first_whole r.lines r.before r.more (report_text r.like) r.like_is r.whole);
-      wrong = λ k. no_more list rest r (subst (λ (q : ℕ). HasLines report_text IsReport q list) is k);
+      wrong = λ k. no_more report_text IsReport list rest r (subst (λ (q : ℕ). HasLines report_text IsReport q list) is k);
     }
 
 pub answers_report : (list : List ℕ) (r : Report) → report_at list ≡ Ok r → IsRead list r
