@@ -21,4 +21,4 @@ mod wide;
 mod words;
 
 pub use reading::{ReportRefusal, read_report};
-pub use report::{Line, Report, write_report};
+pub use report::{Line, Report, write_path, write_report};

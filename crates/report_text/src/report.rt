@@ -273,6 +273,20 @@ fn report_bytes(alloc: Global, report: &Report, blocks: bool) -> Result<Vec<u8>,
     Ok(out)
 }
 
+/// The line of a path, ended by LF.
+pub fn write_path(
+    alloc: Global,
+    input: &[(Units, InputValue)],
+    path: &Path,
+) -> Result<Vec<u8>, NoMemory>
+    requires { are_items_spelt input.now ≡ true }
+    ensures { IfOk result (λ text. text.items ≡ path_text input.now path.now) }
+{
+    let mut text = Vec::new(alloc);
+    push_path(alloc, &mut text, input, path)?;
+    Ok(text)
+}
+
 /// The text of the report, each line ended by LF. Blocks under infeasible lines are written where they
 /// are asked for; those under `unknown steps` always are.
 pub fn write_report(alloc: Global, report: &Report, blocks: bool) -> Result<Vec<u8>, NoMemory>
