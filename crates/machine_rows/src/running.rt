@@ -1,6 +1,6 @@
 //! What a script does on an input, as a report tells it.
 
-ghost use Rattle.std.specs.Prelude.{◌≤◌, IfOk};
+ghost use Rattle.std.specs.Prelude.{◌≡◌, ◌≤◌, IfOk};
 ghost use Rattle.js_state.specs.Fitting.{IsInputValue, AreSupplied};
 
 use js_machine::run_plain;
